@@ -1,0 +1,3 @@
+pub mod Unpacking
+pub mod Packings
+pub mod Powers

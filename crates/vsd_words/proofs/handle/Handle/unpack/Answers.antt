@@ -1,0 +1,14 @@
+use Rattle.std.proofs.Common.{arith}
+use Rattle.vsd_words.specs.Handle.{IsHandlePacking}
+use Rattle.vsd_words.proofs.Unpacking.{unpacks_some, unpacks_none}
+use Rattle.vsd_words.proofs.Packings.{handle_packing-below, handle_packing-one_to_one, handle_of_word}
+use Rattle.vsd_words.proofs.handle.Handle.unpack.Goals as goal
+
+pub returns-then-word : goal.returns-then-word
+returns-then-word c =
+    unpacks_none IsHandlePacking c.args.word (λ h p. omega (arith, handle_packing-below c.args.word h p))
+
+pub returns : goal.returns
+returns c =
+    unpacks_some IsHandlePacking c.args.word _ (handle_packing-one_to_one c.args.word)
+    (handle_of_word c.args.word (omega arith))

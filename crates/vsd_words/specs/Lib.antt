@@ -1,0 +1,6 @@
+pub mod Packing
+pub mod Handle
+pub mod CellWord
+pub mod HandleWord
+pub mod CastWord
+pub mod Hash

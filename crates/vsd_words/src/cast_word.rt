@@ -1,0 +1,38 @@
+ghost use Rattle.std.specs.Prelude.{◌≡◌, ◌<◌, ◌^◌};
+ghost use Rattle.vsd_words.specs.Packing.{Unpacks};
+ghost use Rattle.vsd_words.specs.CastWord.{CastWordInRange, packed_cast, IsCastPacking};
+
+use crate::handle::Handle;
+
+/// The target of a cast that is kept in a row of the cast cache, with the answer. The target is
+/// in range.
+#[derive(Clone, Copy, PartialEq, Eq, Debug)]
+pub struct CastWord {
+    pub target: Handle,
+    pub yes: bool,
+}
+
+impl CastWord {
+    /// The cast word as one word, below 2^48: `2 * target + yes`, over the packed target.
+    #[tactic(auto, unfolding(crate::specs::CastWord::packed_cast))]
+    #[inline]
+    pub fn pack(self) -> u64
+        requires { CastWordInRange self }
+        ensures packing { result ≡ packed_cast self }
+        ensures below { result < 2 ^ 48 }
+    {
+        2 * self.target.pack() + u64::from(self.yes)
+    }
+
+    /// The cast word that packs to the word, or `None` where none in range does.
+    #[inline]
+    pub fn unpack(word: u64) -> Option<Self>
+        ensures { Unpacks IsCastPacking word result }
+    {
+        let target = Handle::unpack(word / 2)?;
+        Some(CastWord {
+            target,
+            yes: word % 2 == 1,
+        })
+    }
+}

@@ -1,0 +1,43 @@
+ghost use Rattle.std.specs.Prelude.{◌≡◌, ◌<◌};
+ghost use Rattle.vsd_words.specs.Packing.{Unpacks};
+ghost use Rattle.vsd_words.specs.CellWord.{CellWordInRange, packed_cell, IsCellPacking};
+
+/// What a call site's cell holds. The row of `Dispatch` is below 1,024.
+#[derive(Clone, Copy, PartialEq, Eq, Debug)]
+pub enum CellWord {
+    /// No call has been made through the site.
+    Lookup,
+    /// The site goes through the resolve cache.
+    Resolve,
+    /// The site expects the handle of this row and goes to the row's target.
+    Dispatch(u16),
+}
+
+impl CellWord {
+    /// The cell as one word, below 1,026: 0, 1, or `2 + row`.
+    #[inline]
+    pub fn pack(self) -> u64
+        requires { CellWordInRange self }
+        ensures packing { result ≡ packed_cell self }
+        ensures below { result < 1026 }
+    {
+        match self {
+            CellWord::Lookup => 0,
+            CellWord::Resolve => 1,
+            CellWord::Dispatch(row) => 2 + u64::from(row),
+        }
+    }
+
+    /// The cell that packs to the word, or `None` where none in range does.
+    #[inline]
+    pub fn unpack(word: u64) -> Option<Self>
+        ensures { Unpacks IsCellPacking word result }
+    {
+        match word {
+            0 => Some(CellWord::Lookup),
+            1 => Some(CellWord::Resolve),
+            2..1026 => Some(CellWord::Dispatch((word - 2) as u16)),
+            _ => None,
+        }
+    }
+}
