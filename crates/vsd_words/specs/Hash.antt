@@ -1,14 +1,13 @@
 -- Where a pair is looked for in the resolve cache and in the cast cache.
-use Rattle.std.specs.Prelude.{◌≡◌, ℕ, ◌+◌, ◌*◌, ◌/◌, ◌%◌, ◌^◌, ◌<◌, ◌≤◌, bit_xor}
-use Rattle.std.specs.Int.{w64, rotate_left}
+use Rattle.std.specs.Prelude.{◌≡◌, ℕ, ◌+◌, ◌*◌, ◌/◌, ◌%◌, ◌^◌, ◌<◌, ◌≤◌, IsTrue, bit_xor}
+use Rattle.std.specs.Int.{w64, is_power_of_two, rotate_left}
 use Rattle.vsd_words.specs.declared.handle.Handle.{Handle}
 use Rattle.vsd_words.specs.Handle.{packed_handle}
 
 -- a count of buckets is a power of two from 1 to 1,024
 pub record IsBucketCount (buckets : ℕ) : Type 0 where
-  pub exponent : ℕ
-  pub small : exponent ≤ 10
-  pub power : buckets ≡ 2 ^ exponent
+  pub power : IsTrue (is_power_of_two buckets)
+  pub small : buckets ≤ 1024
 
 -- the size of a cast region is 128, doubled at most five times
 pub record IsRegionSize (size : ℕ) : Type 0 where
