@@ -1,5 +1,5 @@
 -- A remainder by a power of two is a mask.
-use Rattle.std.proofs.Common.{◌≡◌, ℕ, ◌+◌, ◌-◌, ◌*◌, ◌/◌, ◌<◌, ◌≤◌, ◌%◌, ◌^◌, ◌⊎◌, inl, inr, suc, zero, subst, sym, ap, ◌∙◌, arith, IsTrue, true}
+use Rattle.std.proofs.Common.{◌≡◌, ℕ, ◌+◌, ◌-◌, ◌*◌, ◌/◌, ◌≤◌, ◌%◌, ◌^◌, inl, inr, suc, zero, subst, sym, ap, ◌∙◌, arith, eq-eqb, pow_mono, IsTrue}
 use Rattle.std.proofs.Math.Nat.{pow-suc}
 use Rattle.std.proofs.lemmas.Nat.{and_mask, pow-add, zero_from_ones, ones_le_self}
 use Rattle.std.proofs.lemmas.Bool.{cases_lt, eqb-true}
@@ -25,6 +25,22 @@ exponent_below (suc size) n small one =
 
 exponent : (n : ℕ) → IsTrue (is_power_of_two n) → (k : ℕ) × (n ≡ 2 ^ k)
 exponent n power = exponent_below n n (omega arith) (eqb-true (count_ones n) 1 power)
+
+one_bit : (k : ℕ) → count_ones (2 ^ k) ≡ 1
+one_bit zero = omega (arith, ones_step 1, ones_le_self 0)
+one_bit (suc k) =
+    let doubled : 2 ^ suc k ≡ 2 ^ k * 2 = pow-suc 2 k in
+    let half : 2 ^ suc k / 2 ≡ 2 ^ k = omega arith in
+    let step : count_ones (2 ^ suc k) ≡ 2 ^ suc k % 2 + count_ones (2 ^ suc k / 2) = ones_step (2 ^ suc k) in
+    let lower : count_ones (2 ^ suc k / 2) ≡ 1 = ap count_ones half ∙ one_bit k in
+    omega arith
+
+-- each power of two up to 1,024 is a count of buckets
+pub bucket_count_of_power : (k : ℕ) → k ≤ 10 → IsBucketCount (2 ^ k)
+bucket_count_of_power k small = record {
+  power = eq-eqb (count_ones (2 ^ k)) 1 (one_bit k);
+  small = pow_mono small;
+}
 
 mask_of_power : (n size k : ℕ) → size ≡ 2 ^ k → bit_and n (size - 1) ≡ n % size
 mask_of_power n size k power = subst (λ s. bit_and n (s - 1) ≡ n % s) (sym power) (and_mask n k)

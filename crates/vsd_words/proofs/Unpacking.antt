@@ -1,5 +1,5 @@
 -- What unpacking gives, once packing is known to be one to one.
-use Rattle.std.proofs.Common.{◌≡◌, ℕ, ap, refl, Some, None, Option}
+use Rattle.std.proofs.Common.{◌≡◌, ℕ, ap, refl, Some, None}
 use Rattle.vsd_words.specs.Packing.{Unpacks}
 
 pub unpacks_some : {T : Type 0} (Packs : T → ℕ → Type 0) (word : ℕ) (value : T) →

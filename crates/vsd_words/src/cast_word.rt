@@ -4,8 +4,8 @@ ghost use Rattle.vsd_words.specs.CastWord.{CastWordInRange, packed_cast, IsCastP
 
 use crate::handle::Handle;
 
-/// The target of a cast that is kept in a row of the cast cache, with the answer. The target is
-/// in range.
+/// The target of a cast with its answer, as a row of the cast cache keeps them: the answer in the
+/// low bit, as in CoreCLR's CastCache. The target is in range.
 #[derive(Clone, Copy, PartialEq, Eq, Debug)]
 pub struct CastWord {
     pub target: Handle,

@@ -2,7 +2,8 @@ ghost use Rattle.std.specs.Prelude.{◌≡◌, ◌<◌};
 ghost use Rattle.vsd_words.specs.Packing.{Unpacks};
 ghost use Rattle.vsd_words.specs.CellWord.{CellWordInRange, packed_cell, IsCellPacking};
 
-/// What a call site's cell holds. The row of `Dispatch` is below 1,024.
+/// What the indirection cell of a call site holds (Virtual Stub Dispatch, in the Book of the
+/// Runtime). The row of `Dispatch` is below 1,024.
 #[derive(Clone, Copy, PartialEq, Eq, Debug)]
 pub enum CellWord {
     /// No call has been made through the site.

@@ -13,3 +13,5 @@ mod cell_word;
 mod handle;
 mod handle_word;
 mod hash;
+#[cfg(test)]
+mod tests;

@@ -1,7 +1,7 @@
-use Rattle.std.proofs.Common.{◌≡◌, arith}
+use Rattle.std.proofs.Common.{arith}
 use Rattle.vsd_words.specs.CellWord.{IsCellPacking}
-use Rattle.vsd_words.proofs.Unpacking.{unpacks_some, unpacks_none}
-use Rattle.vsd_words.proofs.Packings.{cell_packing-below, cell_packing-one_to_one}
+use Rattle.vsd_words.proofs.Unpacking.{unpacks_some}
+use Rattle.vsd_words.proofs.Packings.{cell_packing-one_to_one}
 use Rattle.vsd_words.proofs.cell_word.CellWord.unpack.Goals as goal
 
 pub returns-in-0 : goal.returns-in-0
