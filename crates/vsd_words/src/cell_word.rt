@@ -6,9 +6,9 @@ ghost use Rattle.vsd_words.specs.CellWord.{CellWordInRange, packed_cell, IsCellP
 /// Runtime). The row of `Dispatch` is below 1,024.
 #[derive(Clone, Copy, PartialEq, Eq, Debug)]
 pub enum CellWord {
-    /// No call has been made through the site.
+    /// The site expects no handle: the next call looks for its target.
     Lookup,
-    /// The site goes through the resolve cache.
+    /// The site met too many handles, and its calls go through the resolve cache.
     Resolve,
     /// The site expects the handle of this row and goes to the row's target.
     Dispatch(u16),
