@@ -1,0 +1,8 @@
+//! The tokens of a text of declarations and scripts.
+#![tactic(auto)]
+
+mod lexer;
+mod tokens;
+
+pub use lexer::lex;
+pub use tokens::{LexError, Token, TokenKind, token_is};
