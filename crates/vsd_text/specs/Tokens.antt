@@ -1,10 +1,14 @@
 -- The token list of a text.
-use Rattle.std.specs.Prelude.{◌≡◌, ◌≤◌, ℕ, zero, suc, ◌+◌, ◌-◌, ◌==◌, ◌&&◌, ◌||◌, nat_le, nat_lt, Bool, if◌then◌else◌, List, [], ◌∷◌, length, take_while, Option, Some, None, Result, Ok, Err}
+use Rattle.std.specs.Prelude.{◌≤◌, ℕ, zero, suc, ◌+◌, ◌==◌, nat_lt, Bool, false, if◌then◌else◌, List, [], ◌∷◌, ◌++◌, length, count_by, Option, Some, None, Result, Ok, Err}
+use Rattle.std.specs.List.{prefix_len}
+use Rattle.std.specs.Option.{option_map, option_to_list}
 use Rattle.vsd_text.specs.declared.tokens.TokenKind.{TokenKind}
 use Rattle.vsd_text.specs.declared.tokens.TokenKind.TheVariants.{Word, Number, Symbol, Colons, Percents}
 use Rattle.vsd_text.specs.declared.tokens.Token.{Token}
 use Rattle.vsd_text.specs.declared.tokens.LexError.{LexError}
 use Rattle.vsd_text.specs.declared.tokens.LexError.TheVariants.{BadByte, TooLong, Memory}
+use Rattle.vsd_text.specs.declared.pieces.Piece.{Piece}
+use Rattle.vsd_text.specs.Bytes.{is_separator, is_line_feed, is_digit, is_letter, is_run_byte, is_printable}
 
 -- the refusal that an error is: want of memory is none
 abbrev pub refusal_of : LexError → Option LexError
@@ -17,89 +21,68 @@ pub record LiesWithin (text : List ℕ) (token : Token) : Type 0 where
   pub ordered : token.start ≤ token.end
   pub inside : token.end ≤ length text
 
--- the most bytes that a text may have
-abbrev pub text_limit : ℕ
-text_limit = 4194304
+-- how many line feeds stand in the bytes
+abbrev pub line_feeds : List ℕ → ℕ
+line_feeds bs = count_by is_line_feed bs
 
--- tab, line feed, carriage return or space
-abbrev pub is_separator : ℕ → Bool
-is_separator b = b == 9 || b == 10 || b == 13 || b == 32
+-- the first byte is b
+abbrev pub begins_with : ℕ → List ℕ → Bool
+begins_with b [] = false
+begins_with b (c ∷ cs) = c == b
 
-abbrev pub is_digit : ℕ → Bool
-is_digit b = nat_le 48 b && nat_le b 57
+-- n bytes after the first one that stand between tokens
+abbrev pub gap : ℕ → Result Piece LexError
+gap n = Ok (record { kind = None; more = n })
 
--- a letter, or one of `_ $ @ ? .` and the back quote
-abbrev pub is_letter : ℕ → Bool
-is_letter b =
-    nat_le 65 b && nat_le b 90 || nat_le 97 b && nat_le b 122
-    || b == 95 || b == 36 || b == 64 || b == 63 || b == 46 || b == 96
+-- a token of this kind, with n bytes after its first one
+abbrev pub lexeme : TokenKind → ℕ → Result Piece LexError
+lexeme kind n = Ok (record { kind = Some kind; more = n })
 
--- a byte of a Word or a Number
-abbrev pub is_run_byte : ℕ → Bool
-is_run_byte b = is_letter b || is_digit b
+-- the Symbol b, or the token of two such bytes where the next one of bs is the same
+unfoldable pub twin_or_symbol : TokenKind → ℕ → List ℕ → Result Piece LexError
+twin_or_symbol twin b bs = if begins_with b bs then lexeme twin 1 else lexeme (Symbol b) 0
 
--- a byte that is a Symbol where it stands in no other token
-abbrev pub is_printable : ℕ → Bool
-is_printable b = nat_le 33 b && nat_le b 126
-
--- What stands at a place outside all tokens: its kind, and how many bytes it has after its first one.
-pub data Piece : Type 0 where
-  gap : ℕ → Piece
-  lexeme : TokenKind → ℕ → Piece
-  bad : Piece
-
--- a Symbol, or two of it as one token
-unfoldable pub twin_or_symbol : TokenKind → ℕ → List ℕ → Piece
-twin_or_symbol twin b [] = lexeme (Symbol b) 0
-twin_or_symbol twin b (c ∷ bs) = if c == b then lexeme twin 1 else lexeme (Symbol b) 0
-
--- the piece that begins with the byte b, with bs after it
-unfoldable pub piece : ℕ → List ℕ → Piece
-piece b bs =
+-- What stands where no token is begun, on this line, at the byte b with the bytes bs after it.
+unfoldable pub first_piece : ℕ → ℕ → List ℕ → Result Piece LexError
+first_piece line b bs =
     if is_separator b then gap 0
-    else (if is_digit b then lexeme Number (length (take_while is_run_byte bs))
-    else (if is_letter b then lexeme Word (length (take_while is_run_byte bs))
+    else (if is_digit b then lexeme Number (prefix_len is_run_byte bs)
+    else (if is_letter b then lexeme Word (prefix_len is_run_byte bs)
     else (if b == 58 then twin_or_symbol Colons b bs
     else (if b == 37 then twin_or_symbol Percents b bs
     else (if is_printable b then lexeme (Symbol b) 0
-    else bad)))))
+    else Err (BadByte line))))))
 
--- the line of the byte after b, where b stands on this line
-unfoldable pub line_after : ℕ → ℕ → ℕ
-line_after b line = if b == 10 then line + 1 else line
+-- the token, if it is one, of a piece that begins at this place and line
+unfoldable pub tokens_at : ℕ → ℕ → Piece → List Token
+tokens_at place line piece = option_to_list (option_map token_of piece.kind)
+  where
+    token_of : TokenKind → Token
+    token_of kind = record { kind = kind; start = place; end = place + 1 + piece.more; line = line }
 
--- the bytes on each side of a token's range that belong to its piece: the quotes
-abbrev pub margin : TokenKind → ℕ
-margin _ = 0
+-- these tokens before those of what follows them
+unfoldable pub before : List Token → Result (List Token) LexError → Result (List Token) LexError
+before tokens (Ok others) = Ok (tokens ++ others)
+before tokens (Err refusal) = Err refusal
 
--- the token whose piece begins at this place and line and has n bytes after its first one
-unfoldable pub token_at : ℕ → ℕ → TokenKind → ℕ → Token
-token_at place line kind n = record {
-  kind = kind;
-  start = place + margin kind;
-  end = place + n + 1 - margin kind;
-  line = line;
-}
-
--- the token before those of what follows it
-unfoldable pub before_tokens : Token → Result (List Token) LexError → Result (List Token) LexError
-before_tokens token (Ok tokens) = Ok (token ∷ tokens)
-before_tokens token (Err refusal) = Err refusal
-
--- What a piece at this place and line gives, where `after n` is what the text gives when n bytes after
+-- What a piece at this place and line gives, where `after n` is what the text gives once n bytes after
 -- the piece's first one are passed over.
-unfoldable pub piece_then : ℕ → ℕ → Piece → (ℕ → Result (List Token) LexError) → Result (List Token) LexError
-piece_then place line (gap n) after = after n
-piece_then place line (lexeme kind n) after = before_tokens (token_at place line kind n) (after n)
-piece_then place line bad after = Err (BadByte line)
+unfoldable pub with_piece : ℕ → ℕ → Result Piece LexError → (ℕ → Result (List Token) LexError) → Result (List Token) LexError
+with_piece place line (Ok piece) after = before (tokens_at place line piece) (after piece.more)
+with_piece place line (Err refusal) after = Err refusal
 
 -- The tokens of what is left of a text, from this place and line on, where so many bytes of it still
 -- belong to the piece before.
 unfoldable pub tokens_from : ℕ → ℕ → ℕ → List ℕ → Result (List Token) LexError
 tokens_from place line passing [] = Ok []
-tokens_from place line (suc passing) (b ∷ bs) = tokens_from (place + 1) (line_after b line) passing bs
+tokens_from place line (suc passing) (b ∷ bs) =
+    tokens_from (place + 1) (line + line_feeds (b ∷ [])) passing bs
 tokens_from place line zero (b ∷ bs) =
-    piece_then place line (piece b bs) (λ n. tokens_from (place + 1) (line_after b line) n bs)
+    with_piece place line (first_piece line b bs) (λ n. tokens_from (place + 1) (line + line_feeds (b ∷ [])) n bs)
+
+-- the most bytes that a text may have
+abbrev pub text_limit : ℕ
+text_limit = 4194304
 
 -- the tokens of a text, or its first refusal
 unfoldable pub tokens_of : List ℕ → Result (List Token) LexError

@@ -1,7 +1,9 @@
 //! The tokens of a text of declarations and scripts.
 #![tactic(auto)]
 
+mod bytes;
 mod lexer;
+mod pieces;
 mod tokens;
 
 pub use lexer::lex;
