@@ -42,7 +42,7 @@ before-before ts us (Ok vs) = ap Ok (sym (append_assoc ts us vs))
 before-before ts us (Err e) = refl
 
 -- the piece at the front of some bytes, and what follows it
-front_piece : (place line b : ℕ) (bs : List ℕ) (piece : Piece) → piece.more ≤ length bs → first_piece line b bs ≡ Ok piece → tokens_from place line 0 (b ∷ bs) ≡ before (tokens_at place line piece) (tokens_from (place + 1 + piece.more) (line + line_feeds (b ∷ take piece.more bs)) 0 (drop piece.more bs))
+pub front_piece : (place line b : ℕ) (bs : List ℕ) (piece : Piece) → piece.more ≤ length bs → first_piece line b bs ≡ Ok piece → tokens_from place line 0 (b ∷ bs) ≡ before (tokens_at place line piece) (tokens_from (place + 1 + piece.more) (line + line_feeds (b ∷ take piece.more bs)) 0 (drop piece.more bs))
 unfolding tokens_from with_piece
 front_piece place line b bs piece le is =
     let lines : line + line_feeds (b ∷ []) + line_feeds (take piece.more bs) ≡ line + line_feeds (b ∷ take piece.more bs) = omega (arith, line_feeds-cons b (take piece.more bs)) in

@@ -31,26 +31,26 @@ begins_with b [] = false
 begins_with b (c ∷ cs) = c == b
 
 -- n bytes after the first one that stand between tokens
-abbrev pub gap : ℕ → Result Piece LexError
-gap n = Ok (record { kind = None; more = n })
+abbrev pub gap_piece : ℕ → Result Piece LexError
+gap_piece n = Ok (record { kind = None; more = n })
 
 -- a token of this kind, with n bytes after its first one
-abbrev pub lexeme : TokenKind → ℕ → Result Piece LexError
-lexeme kind n = Ok (record { kind = Some kind; more = n })
+abbrev pub token_piece : TokenKind → ℕ → Result Piece LexError
+token_piece kind n = Ok (record { kind = Some kind; more = n })
 
 -- the Symbol b, or the token of two such bytes where the next one of bs is the same
 unfoldable pub twin_or_symbol : TokenKind → ℕ → List ℕ → Result Piece LexError
-twin_or_symbol twin b bs = if begins_with b bs then lexeme twin 1 else lexeme (Symbol b) 0
+twin_or_symbol twin b bs = if begins_with b bs then token_piece twin 1 else token_piece (Symbol b) 0
 
 -- What stands where no token is begun, on this line, at the byte b with the bytes bs after it.
 unfoldable pub first_piece : ℕ → ℕ → List ℕ → Result Piece LexError
 first_piece line b bs =
-    if is_separator b then gap 0
-    else (if is_digit b then lexeme Number (prefix_len is_run_byte bs)
-    else (if is_letter b then lexeme Word (prefix_len is_run_byte bs)
+    if is_separator b then gap_piece 0
+    else (if is_digit b then token_piece Number (prefix_len is_run_byte bs)
+    else (if is_letter b then token_piece Word (prefix_len is_run_byte bs)
     else (if b == 58 then twin_or_symbol Colons b bs
     else (if b == 37 then twin_or_symbol Percents b bs
-    else (if is_printable b then lexeme (Symbol b) 0
+    else (if is_printable b then token_piece (Symbol b) 0
     else Err (BadByte line))))))
 
 -- the token, if it is one, of a piece that begins at this place and line

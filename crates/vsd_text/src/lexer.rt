@@ -52,3 +52,42 @@ pub fn lex(alloc: Global, text: &[u8]) -> Result<Vec<Token>, LexError>
     }
     Ok(tokens)
 }
+
+#[cfg(test)]
+mod tests {
+    use super::*;
+    use crate::tokens::TokenKind;
+    use std::test::Fail;
+
+    fn token(kind: TokenKind, start: u32, end: u32, line: u32) -> Token {
+        Token {
+            kind,
+            start,
+            end,
+            line,
+        }
+    }
+
+    #[test]
+    fn cuts_a_text(rt: HostRuntime) -> Result<(), Fail> {
+        let tokens = lex(rt.alloc(), b"vsd 1\n.a$`1::2b:%%\r%;")?;
+        let expected = [
+            token(TokenKind::Word, 0, 3, 1),
+            token(TokenKind::Number, 4, 5, 1),
+            token(TokenKind::Word, 6, 11, 2),
+            token(TokenKind::Colons, 11, 13, 2),
+            token(TokenKind::Number, 13, 15, 2),
+            token(TokenKind::Symbol(b':'), 15, 16, 2),
+            token(TokenKind::Percents, 16, 18, 2),
+            token(TokenKind::Symbol(b'%'), 19, 20, 2),
+            token(TokenKind::Symbol(b';'), 20, 21, 2),
+        ];
+        assert_eq!(rt; tokens.as_slice(), expected.as_slice());
+        assert_eq!(rt; lex(rt.alloc(), b"")?.len(), 0);
+        assert_eq!(rt;
+            lex(rt.alloc(), b"a\n\x01").err(),
+            Some(LexError::BadByte { line: 2 })
+        );
+        Ok(())
+    }
+}
