@@ -1,0 +1,26 @@
+-- The kinds of byte.
+use Rattle.std.specs.Prelude.{ℕ, Bool, ◌==◌, ◌&&◌, ◌||◌, nat_le}
+
+-- tab, line feed, carriage return or space
+unfoldable pub is_separator : ℕ → Bool
+is_separator b = b == 9 || b == 10 || b == 13 || b == 32
+
+unfoldable pub is_line_feed : ℕ → Bool
+is_line_feed b = b == 10
+
+unfoldable pub is_digit : ℕ → Bool
+is_digit b = nat_le 48 b && nat_le b 57
+
+-- A to Z or a to z, or one of `_ $ @ ? .` and the back quote
+unfoldable pub is_letter : ℕ → Bool
+is_letter b =
+    nat_le 65 b && nat_le b 90 || nat_le 97 b && nat_le b 122
+    || b == 95 || b == 36 || b == 64 || b == 63 || b == 46 || b == 96
+
+-- a byte that may stand in a Word or a Number
+unfoldable pub is_run_byte : ℕ → Bool
+is_run_byte b = is_letter b || is_digit b
+
+-- a byte that may stand in a token: one of the printable bytes
+unfoldable pub is_printable : ℕ → Bool
+is_printable b = nat_le 33 b && nat_le b 126

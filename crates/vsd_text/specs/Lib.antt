@@ -1,0 +1,4 @@
+pub mod Bytes
+pub mod Outcome
+pub mod Spelling
+pub mod Tokens
