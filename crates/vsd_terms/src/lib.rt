@@ -1,0 +1,9 @@
+//! Type names and terms: what a declaration or a script writes where a type is meant.
+#![tactic(auto)]
+
+mod equality;
+mod size;
+mod term;
+
+pub use size::{levels, nodes};
+pub use term::{Builtin, Term, Terms};
