@@ -2,8 +2,10 @@
 #![tactic(auto)]
 
 mod equality;
+mod names;
 mod size;
 mod term;
 
+pub use names::{Names, NamesError};
 pub use size::{levels, nodes};
 pub use term::{Builtin, Term, Terms};
