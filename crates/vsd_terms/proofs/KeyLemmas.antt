@@ -62,15 +62,18 @@ distinct_names : (keys : List (Vec ℕ)) → IsDistinct (λ x y. is_key_of x.ite
 distinct_names [] distinct i j name at_i at_j = absurd cc
 distinct_names (key ∷ keys) distinct i j name at_i at_j =
     elim (cases_order i j) [
-      inl same ↦ same
-    | inr other ↦ elim other [
-        inl below ↦ absurd (names_apart key keys i j name distinct at_i at_j below)
-      | inr above ↦ absurd (names_apart key keys j i name distinct at_j at_i above) ] ]
+      | inl same ↦ same
+      | inr other ↦ elim other [
+        | inl below ↦ absurd (names_apart key keys i j name distinct at_i at_j below)
+        | inr above ↦ absurd (names_apart key keys j i name distinct at_j at_i above)
+      ]
+    ]
 
 pub AreNames-names_in : (keys : List (Vec ℕ)) → IsDistinct (λ x y. is_key_of x.items y) keys → length keys ≤ 2048 → AreNames (names_in keys)
 AreNames-names_in keys distinct few = record {
-    few = rw length-map few;
-    distinct = distinct_names keys distinct }
+  few = rw length-map few;
+  distinct = distinct_names keys distinct;
+}
 
 -- ---- a key that is put in
 

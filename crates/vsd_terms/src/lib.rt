@@ -3,9 +3,11 @@
 
 mod equality;
 mod names;
+mod places;
 mod size;
 mod term;
 
 pub use names::{Names, NamesError};
+pub use places::place_of;
 pub use size::{levels, nodes};
 pub use term::{Builtin, Term, Terms};
