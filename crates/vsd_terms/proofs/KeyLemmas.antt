@@ -1,5 +1,5 @@
 -- What a set of byte strings answers, said of the names that it holds.
-use Rattle.std.proofs.Common.{◌≡◌, ℕ, ◌<◌, ◌≤◌, Bool, true, false, List, [], ◌∷◌, ◌++◌, ◌||◌, if◌then◌else◌, length, get_or, map, sym, ap, ◌∙◌, subst, refl, inl, inr, Some, Contains, arith, nat_eq}
+use Rattle.std.proofs.Common.{◌≡◌, ℕ, ◌<◌, ◌≤◌, Bool, true, false, List, [], ◌∷◌, ◌++◌, ◌||◌, if◌then◌else◌, length, get_or, sym, ap, ◌∙◌, subst, refl, inl, inr, Some, Contains, arith, nat_eq}
 use Rattle.std.specs.Global.{Vec}
 use Rattle.std.specs.Bool.{Decides}
 use Rattle.std.specs.Cmp.{unsigned_Decides}

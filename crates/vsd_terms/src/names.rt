@@ -19,7 +19,7 @@ pub enum NamesError {
 }
 
 /// Distinct names, each numbered by its place: the first seen is 0. Contracts see the list of the names.
-#[derive(Drop)]
+#[derive(Debug, Drop)]
 pub struct Names {
     set: IndexSet<Vec<u8>>,
 }
@@ -85,9 +85,9 @@ impl Names {
         self.set.as_slice()[number as usize].as_slice()
     }
 
-    /// The number of `name`, which is a new one where the name is new.
+    /// The number of `name`, which is the next one where the name is new.
     ///
-    /// A refusal leaves the names as they were.
+    /// A refusal, for a new name alone, leaves the names as they were.
     pub fn number(&mut self, name: &[u8]) -> Result<u16, NamesError>
         // The name is at the place of the number, and every name keeps its place.
         ensures adds { OnOk result (AddsName self.old self.new name.now) }

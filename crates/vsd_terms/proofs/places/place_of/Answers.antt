@@ -1,6 +1,5 @@
-use Rattle.std.proofs.Common.{ℕ, Bool, Option, None, Some, IfSome, IsSome, List, Contains, is_some, sym, ◌≡◌, ◌∙◌}
-use Rattle.std.specs.Bool.{Decides}
-use Rattle.std.specs.List.{list_any, position, slice_get}
+use Rattle.std.proofs.Common.{ℕ, Option, None, Some, IfSome, List, sym, ◌≡◌, ◌∙◌}
+use Rattle.std.specs.List.{position, slice_get}
 use Rattle.vsd_terms.specs.declared.term.Term.{Term}
 use Rattle.vsd_terms.specs.Equality.{term_eq}
 use Rattle.vsd_terms.proofs.TermLemmas.{has_term-Decides, term_at_position}
