@@ -1,0 +1,4 @@
+pub mod Equality
+pub mod Keys
+pub mod Names
+pub mod Size
