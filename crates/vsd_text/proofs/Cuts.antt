@@ -1,20 +1,17 @@
 -- A text cut into its parts, and the tokens of parts.
-use Rattle.std.proofs.Common.{◌≡◌, ℕ, zero, suc, ◌+◌, List, [], ◌∷◌, ◌++◌, length, take, drop, Option, Some, None, Result, Ok, Err, refl, sym, ap, ◌∙◌, subst, arith, append_assoc, cond}
+use Rattle.std.proofs.Common.{◌≡◌, ℕ, zero, suc, ◌+◌, ◌-◌, List, [], ◌∷◌, ◌++◌, length, take, drop, Option, Some, None, Result, Ok, Err, refl, sym, ap, ◌∙◌, subst, arith, append_assoc}
 use Rattle.std.proofs.lemmas.Result.{IfOk-at_ok}
 use Rattle.std.proofs.lemmas.List.{length-append, take-append-drop, take_at, drop_at}
-use Rattle.std.proofs.lemmas.List.Sums.{sum_by-append}
-use Rattle.vsd_text.specs.Bytes.{is_line_feed}
-use Rattle.vsd_text.specs.Tokens.{first_piece, line_feeds, tokens_from, tokens_at, before}
+use Rattle.vsd_text.specs.Tokens.{first_piece, line_feeds, tokens_from, token_at, tokens_at, margin, before}
 use Rattle.vsd_text.specs.Spelling.{Part, gap, lexeme, bytes_of, text_of, IsPart, AreParts, tokens_in}
 use Rattle.vsd_text.specs.declared.tokens.Token.{Token}
 use Rattle.vsd_text.specs.declared.tokens.TokenKind.{TokenKind}
 use Rattle.vsd_text.specs.declared.tokens.LexError.{LexError}
 use Rattle.vsd_text.specs.declared.pieces.Piece.{Piece}
 use Rattle.vsd_text.proofs.Steps.{front_piece, before-before}
-use Rattle.vsd_text.proofs.Parts.{part_of, PieceIsPart, piece_is_part, kind_of, part_is_piece}
-
-pub line_feeds-append : (xs ys : List ℕ) → line_feeds (xs ++ ys) ≡ line_feeds xs + line_feeds ys
-line_feeds-append xs ys = sum_by-append (λ x. cond (is_line_feed x) 1 0) xs ys
+use Rattle.vsd_text.proofs.LineFeeds.{line_feeds-append}
+use Rattle.vsd_text.proofs.Parts.{part_of, PieceIsPart, piece_is_part}
+use Rattle.vsd_text.proofs.PieceOfPart.{kind_of, part_is_piece}
 
 -- no piece begins at the front of the bytes: they are at their end, or refused
 abbrev pub IsStuck : ℕ → List ℕ → Type 0
@@ -71,20 +68,20 @@ cut_after (suc n) line [] = cut_nil line [] tt
 cut_after (suc n) line (b ∷ bs) = cut_after n line bs
 cut_after zero line (b ∷ bs) = cut_front line b bs (first_piece line b bs) refl (λ n l. cut_after n l bs)
 
-before-nil : (r : Result (List Token) LexError) → before [] r ≡ r
+pub before-nil : (r : Result (List Token) LexError) → before [] r ≡ r
 unfolding before
 before-nil (Ok tokens) = refl
 before-nil (Err refusal) = refl
 
 -- the tokens of parts, the first one apart
 tokens_in-cons : (place line : ℕ) (part : Part) (byte : ℕ) (others : List ℕ) (parts : List Part) → bytes_of part ≡ byte ∷ others → tokens_in place line (part ∷ parts) ≡ tokens_at place line (record { kind = kind_of part; more = length others }) ++ tokens_in (place + 1 + length others) (line + line_feeds (byte ∷ others)) parts
-unfolding tokens_at
+unfolding tokens_at token_at
 tokens_in-cons place line (gap bs) byte others parts are =
     let there : place + suc (length others) ≡ place + 1 + length others = omega arith in
     rw are (ap (λ p. tokens_in p (line + line_feeds (byte ∷ others)) parts) there)
 tokens_in-cons place line (lexeme kind bs) byte others parts are =
     let there : place + suc (length others) ≡ place + 1 + length others = omega arith in
-    rw are (ap (λ p. record { kind = kind; start = place; end = p; line = line } ∷ tokens_in p (line + line_feeds (byte ∷ others)) parts) there)
+    rw are (ap (λ p. record { kind = kind; start = place + margin kind; end = p - margin kind; line = line } ∷ tokens_in p (line + line_feeds (byte ∷ others)) parts) there)
 
 -- the tokens from a place on, where these parts begin and the rest follows
 pub tokens_from-parts : (place line : ℕ) (parts : List Part) (rest : List ℕ) → AreParts parts rest → tokens_from place line 0 (text_of parts ++ rest) ≡ before (tokens_in place line parts) (tokens_from (place + length (text_of parts)) (line + line_feeds (text_of parts)) 0 rest)

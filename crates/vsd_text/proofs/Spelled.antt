@@ -1,162 +1,124 @@
 -- What the definition of the token list comes to, by the parts of the text.
-use Rattle.std.proofs.Common.{◌≡◌, ℕ, ◌+◌, ◌<◌, ◌≤◌, List, [], ◌∷◌, ◌++◌, length, take, drop, nat_lt, Ok, Err, refl, sym, ap, ◌∙◌, subst, arith, append_assoc, ◌⊎◌, inl, inr, ⊎_elim}
+use Rattle.std.proofs.Common.{◌≡◌, ℕ, ◌+◌, ◌<◌, ◌≤◌, List, [], ◌∷◌, ◌++◌, length, take, nat_lt, Result, Ok, Err, refl, sym, ap, ◌∙◌, subst, arith, append_assoc, ◌⊎◌, inl, inr}
 use Rattle.std.specs.Prelude.{All}
-use Rattle.std.proofs.lemmas.Bool.{cond-true, cond-false, lt-ltb, le-ltb, cases_order}
+use Rattle.std.proofs.lemmas.Bool.{cond-true, lt-ltb}
 use Rattle.std.proofs.lemmas.Result.{IfErr-at_err}
-use Rattle.std.proofs.lemmas.List.{append-nil, length-append, take-append-drop, take-take, take_at, length_push}
+use Rattle.std.proofs.lemmas.List.{append-nil, length-append, length-take-le, take-append-drop, take_at, length_push}
 use Rattle.std.proofs.lemmas.List.Elements.{All-nil, All-cons}
-use Rattle.vsd_text.specs.Tokens.{first_piece, line_feeds, tokens_from, tokens_of, before, with_piece, text_limit}
-use Rattle.vsd_text.specs.Spelling.{Part, gap, lexeme, text_of, IsLongest, AreParts, tokens_in, IsTokenList, CanBegin, HasBadByte}
+use Rattle.vsd_text.specs.Bytes.{is_line_feed}
+use Rattle.vsd_text.specs.Tokens.{first_piece, line_feeds, margin, mark_len, tokens_from, tokens_of, before, with_piece, text_limit}
+use Rattle.vsd_text.specs.Spelling.{IsLexeme, Part, gap, lexeme, text_of, AreParts, tokens_in, body_of, IsTokenList, IsRefusal, HasRefusal}
 use Rattle.vsd_text.specs.declared.tokens.Token.{Token}
-use Rattle.vsd_text.specs.declared.tokens.LexError.TheVariants.{BadByte, TooLong}
-use Rattle.vsd_text.proofs.Parts.{IsBad, refused_is_bad}
-use Rattle.vsd_text.proofs.Cuts.{IsStuck, cut_after, tokens_from-parts, line_feeds-append}
+use Rattle.vsd_text.specs.declared.tokens.TokenKind.{TokenKind}
+use Rattle.vsd_text.specs.declared.tokens.TokenKind.TheVariants.{Word, Quoted, Number, Text, Symbol, Colons, Percents}
+use Rattle.vsd_text.specs.declared.tokens.LexError.{LexError}
+use Rattle.vsd_text.specs.declared.tokens.LexError.TheVariants.{TooLong}
+use Rattle.vsd_text.proofs.LineFeeds.{line_feeds-append}
+use Rattle.vsd_text.proofs.Steps.{mark_is, tokens_of-short}
+use Rattle.vsd_text.proofs.Refusals.{refused_is_refusal, refusal_is_refused, no_refusal_at_end}
+use Rattle.vsd_text.proofs.Cuts.{IsStuck, cut_after, before-nil, tokens_from-parts}
+
+-- what a text gives after its mark
+abbrev pub read_of : List ℕ → Result (List Token) LexError
+read_of text = tokens_from (mark_len text) 1 0 (body_of text)
 
 -- a text that is not too long
-pub tokens_of-fits : (text : List ℕ) → length text ≤ text_limit → tokens_of text ≡ tokens_from 0 1 0 text
-unfolding tokens_of
-tokens_of-fits text short = cond-false (nat_lt text_limit (length text)) _ _ (le-ltb _ _ short)
+pub tokens_of-fits : (text : List ℕ) → length text ≤ text_limit → tokens_of text ≡ read_of text
+tokens_of-fits text short = tokens_of-short text short ∙ before-nil (read_of text)
 
 pub tokens_of-long : (text : List ℕ) → text_limit < length text → tokens_of text ≡ Err TooLong
 unfolding tokens_of
 tokens_of-long text long = cond-true (nat_lt text_limit (length text)) _ _ (lt-ltb _ _ long)
 
--- where a text ends that is cut as far as it goes
+-- what parts give, with nothing after them
+pub parts_give : (place : ℕ) (bs : List ℕ) (parts : List Part) → bs ≡ text_of parts → AreParts parts [] → tokens_from place 1 0 bs ≡ Ok (tokens_in place 1 parts)
+unfolding tokens_from before
+parts_give place bs parts is are =
+    ap (tokens_from place 1 0) (is ∙ sym (append-nil (text_of parts))) ∙ tokens_from-parts place 1 parts [] are ∙ ap Ok (append-nil (tokens_in place 1 parts))
+
+-- what parts give, with a refusal after them
+pub refusal_given : (place : ℕ) (bs : List ℕ) (parts : List Part) (byte : ℕ) (others : List ℕ) (refusal : LexError) → bs ≡ text_of parts ++ byte ∷ others → AreParts parts (byte ∷ others) → first_piece (1 + line_feeds (text_of parts)) byte others ≡ Err refusal → tokens_from place 1 0 bs ≡ Err refusal
+unfolding tokens_from before with_piece
+refusal_given place bs parts byte others refusal is are refused =
+    let line = 1 + line_feeds (text_of parts) in
+    let there = place + length (text_of parts) in
+    ap (tokens_from place 1 0) is ∙ tokens_from-parts place 1 parts (byte ∷ others) are
+    ∙ ap (λ r. before (tokens_in place 1 parts) (with_piece there line r (λ n. tokens_from (there + 1) (line + line_feeds (byte ∷ [])) n others))) refused
+
+-- a text is parts to its end, or up to a refusal
 pub record IsWhole (text : List ℕ) : Type 0 where
   pub parts : List Part
-  pub text_is : text ≡ text_of parts
+  pub text_is : body_of text ≡ text_of parts
   pub are_parts : AreParts parts []
-  pub gives : tokens_from 0 1 0 text ≡ Ok (tokens_in 0 1 parts)
+  pub gives : read_of text ≡ Ok (tokens_in (mark_len text) 1 parts)
 
-pub record IsRefused (text : List ℕ) : Type 0 where
-  pub parts : List Part
-  pub byte : ℕ
-  pub others : List ℕ
-  pub text_is : text ≡ text_of parts ++ byte ∷ others
-  pub are_parts : AreParts parts (byte ∷ others)
-  pub bad : (bs : List ℕ) → first_piece (1 + line_feeds (text_of parts)) byte bs ≡ Err (BadByte (1 + line_feeds (text_of parts)))
-  pub gives : tokens_from 0 1 0 text ≡ Err (BadByte (1 + line_feeds (text_of parts)))
+pub record IsStopped (text : List ℕ) : Type 0 where
+  pub refusal : LexError
+  pub has : HasRefusal text refusal
+  pub gives : read_of text ≡ Err refusal
 
--- a byte that is refused ends what follows any parts
-refused_after : (parts : List Part) (byte : ℕ) (others : List ℕ) → AreParts parts (byte ∷ others) → ((bs : List ℕ) → first_piece (1 + line_feeds (text_of parts)) byte bs ≡ Err (BadByte (1 + line_feeds (text_of parts)))) → tokens_from 0 1 0 (text_of parts ++ byte ∷ others) ≡ Err (BadByte (1 + line_feeds (text_of parts)))
-unfolding tokens_from before with_piece
-refused_after parts byte others are bad =
+whole_or_stopped : (text : List ℕ) (parts : List Part) (rest : List ℕ) → body_of text ≡ text_of parts ++ rest → AreParts parts rest → IsStuck (1 + line_feeds (text_of parts)) rest → IsWhole text ⊎ IsStopped text
+whole_or_stopped text parts [] is are stuck =
+    let whole = is ∙ append-nil (text_of parts) in
+    inl (record { parts = parts; text_is = whole; are_parts = are; gives = parts_give (mark_len text) (body_of text) parts whole are })
+whole_or_stopped text parts (byte ∷ others) is are stuck =
     let line = 1 + line_feeds (text_of parts) in
-    let place = 0 + length (text_of parts) in
-    tokens_from-parts 0 1 parts (byte ∷ others) are
-    ∙ ap (λ r. before (tokens_in 0 1 parts) (with_piece place line r (λ n. tokens_from (place + 1) (line + line_feeds (byte ∷ [])) n others))) (bad others)
-
-whole_or_refused : (text : List ℕ) (parts : List Part) (rest : List ℕ) → text ≡ text_of parts ++ rest → AreParts parts rest → IsStuck (1 + line_feeds (text_of parts)) rest → IsWhole text ⊎ IsRefused text
-unfolding tokens_from before
-whole_or_refused text parts [] is are stuck = inl (record {
-  parts = parts;
-  text_is = is ∙ append-nil (text_of parts);
-  are_parts = are;
-  gives = ap (tokens_from 0 1 0) is ∙ tokens_from-parts 0 1 parts [] are ∙ ap Ok (append-nil (tokens_in 0 1 parts));
-})
-whole_or_refused text parts (byte ∷ others) is are stuck =
-    let line = 1 + line_feeds (text_of parts) in
-    let bad = IfErr-at_err (IsBad line byte) stuck.1 (refused_is_bad line byte others) in
     inr (record {
-      parts = parts;
-      byte = byte;
-      others = others;
-      text_is = is;
-      are_parts = are;
-      bad = bad.anywhere;
-      gives = ap (tokens_from 0 1 0) is ∙ refused_after parts byte others are bad.anywhere;
+      refusal = stuck.0;
+      has = record { parts = parts; rest = byte ∷ others; text_is = is; are_parts = are; is_refusal = IfErr-at_err (IsRefusal line (byte ∷ others)) stuck.1 (refused_is_refusal line byte others) };
+      gives = refusal_given (mark_len text) (body_of text) parts byte others stuck.0 is are stuck.1;
     })
 
-pub outcome_of : (text : List ℕ) → IsWhole text ⊎ IsRefused text
-outcome_of text = let cut = cut_after 0 1 text in whole_or_refused text cut.parts cut.rest cut.bytes_are cut.are_parts cut.stuck
+pub outcome_of : (text : List ℕ) → IsWhole text ⊎ IsStopped text
+outcome_of text = let cut = cut_after 0 1 (body_of text) in whole_or_stopped text cut.parts cut.rest cut.bytes_are cut.are_parts cut.stuck
 
 -- a token list is what the text gives
-pub list_is_given : (text : List ℕ) (tokens : List Token) → IsTokenList text tokens → tokens_from 0 1 0 text ≡ Ok tokens
-unfolding tokens_from before
-list_is_given text tokens list =
-    ap (tokens_from 0 1 0) (list.text_is ∙ sym (append-nil (text_of list.parts)))
-    ∙ tokens_from-parts 0 1 list.parts [] list.are_parts
-    ∙ ap Ok (append-nil (tokens_in 0 1 list.parts) ∙ sym list.tokens_are)
+pub list_is_given : (text : List ℕ) (tokens : List Token) → IsTokenList text tokens → read_of text ≡ Ok tokens
+list_is_given text tokens list = parts_give (mark_len text) (body_of text) list.parts list.text_is list.are_parts ∙ ap Ok (sym list.tokens_are)
 
-pub whole_is_list : (text : List ℕ) (whole : IsWhole text) → IsTokenList text (tokens_in 0 1 whole.parts)
+pub whole_is_list : (text : List ℕ) (whole : IsWhole text) → IsTokenList text (tokens_in (mark_len text) 1 whole.parts)
 whole_is_list text whole = record { parts = whole.parts; text_is = whole.text_is; are_parts = whole.are_parts; tokens_are = refl }
 
--- the first of the bytes alone decides what may stand before them
-longest_again : (bs front : List ℕ) (byte : ℕ) (others more : List ℕ) → IsLongest bs (front ++ byte ∷ others) → IsLongest bs (front ++ byte ∷ more)
-longest_again bs [] byte others more longest = longest
-longest_again bs (c ∷ front) byte others more longest = longest
-
-longest_at_end : (bs front : List ℕ) (byte : ℕ) (others : List ℕ) → IsLongest bs (front ++ byte ∷ others) → IsLongest bs (front ++ [])
-longest_at_end bs [] byte others longest = tt
-longest_at_end bs (c ∷ front) byte others longest = longest
-
-parts_again : (parts : List Part) (byte : ℕ) (others more : List ℕ) → AreParts parts (byte ∷ others) → AreParts parts (byte ∷ more)
-parts_again [] byte others more are = tt
-parts_again (gap bs ∷ parts) byte others more are = (are.0, parts_again parts byte others more are.1)
-parts_again (lexeme kind bs ∷ parts) byte others more are =
-    ((are.0.0, longest_again bs (text_of parts) byte others more are.0.1), parts_again parts byte others more are.1)
-
-parts_at_end : (parts : List Part) (byte : ℕ) (others : List ℕ) → AreParts parts (byte ∷ others) → AreParts parts []
-parts_at_end [] byte others are = tt
-parts_at_end (gap bs ∷ parts) byte others are = (are.0, parts_at_end parts byte others are.1)
-parts_at_end (lexeme kind bs ∷ parts) byte others are =
-    ((are.0.0, longest_at_end bs (text_of parts) byte others are.0.1), parts_at_end parts byte others are.1)
-
--- the bad byte of a text that is refused
-pub refused_has_bad_byte : (text : List ℕ) (refused : IsRefused text) → HasBadByte text (1 + line_feeds (text_of refused.parts))
-refused_has_bad_byte text r =
-    let front = text_of r.parts in
-    let at = length front in
-    let before_it : take at text ≡ front = ap (take at) r.text_is ∙ take_at front (r.byte ∷ r.others) at refl in
-    let with_it : take (at + 1) text ≡ front ++ r.byte ∷ [] =
-    ap (take (at + 1)) (r.text_is ∙ sym (append_assoc front (r.byte ∷ []) r.others)) ∙ take_at (front ++ r.byte ∷ []) r.others (at + 1) (length_push front r.byte) in
-    record {
-      at = at;
-      in_range = omega (arith, ap length r.text_is, length-append front (r.byte ∷ r.others));
-      can_begin = record {
-        more = [];
-        tokens = tokens_in 0 1 r.parts;
-        is_list = record {
-          parts = r.parts;
-          text_is = append-nil (take at text) ∙ before_it;
-          are_parts = parts_at_end r.parts r.byte r.others r.are_parts;
-          tokens_are = refl;
-        };
-      };
-      cannot = λ can.
-          let given = list_is_given (take (at + 1) text ++ can.more) can.tokens can.is_list in
-          let ends =
-          ap (tokens_from 0 1 0) (ap (λ xs. xs ++ can.more) with_it ∙ append_assoc front (r.byte ∷ []) can.more)
-          ∙ refused_after r.parts r.byte can.more (parts_again r.parts r.byte r.others can.more r.are_parts) r.bad in
-          cc;
-      line_is = ap (λ xs. 1 + line_feeds xs) (sym before_it);
-    }
-
--- what begins a text begins it with fewer bytes too
-can_begin_before : (text : List ℕ) (m n : ℕ) → m ≤ n → CanBegin (take n text) → CanBegin (take m text)
-can_begin_before text m n le can = record {
-  more = drop m (take n text) ++ can.more;
-  tokens = can.tokens;
-  is_list = subst (λ xs. IsTokenList xs can.tokens) joined can.is_list;
-}
+-- a refusal is what the text gives
+pub refusal_is_given : (text : List ℕ) (refusal : LexError) → HasRefusal text refusal → read_of text ≡ Err refusal
+refusal_is_given text refusal has = by_rest has.rest refl
   where
-    joined : take n text ++ can.more ≡ take m text ++ (drop m (take n text) ++ can.more)
-    joined =
-        ap (λ xs. xs ++ can.more) (sym (take-append-drop m (take n text)) ∙ ap (λ xs. xs ++ drop m (take n text)) (take-take m n text le))
-        ∙ append_assoc (take m text) (drop m (take n text)) can.more
+    by_rest : (rest : List ℕ) → has.rest ≡ rest → read_of text ≡ Err refusal
+    by_rest [] is = absurd (no_refusal_at_end _ refusal (subst (λ xs. IsRefusal (1 + line_feeds (text_of has.parts)) xs refusal) is has.is_refusal))
+    by_rest (byte ∷ others) is =
+        let line = 1 + line_feeds (text_of has.parts) in
+        refusal_given (mark_len text) (body_of text) has.parts byte others refusal (has.text_is ∙ ap (λ xs. text_of has.parts ++ xs) is) (subst (AreParts has.parts) is has.are_parts)
+        (refusal_is_refused line byte others refusal (subst (λ xs. IsRefusal line xs refusal) is has.is_refusal))
 
--- there is one bad byte at most
-pub bad_byte_is_unique : (text : List ℕ) (line line' : ℕ) → HasBadByte text line → HasBadByte text line' → line ≡ line'
-bad_byte_is_unique text line line' x y =
-    ⊎_elim (λ same. x.line_is ∙ ap (λ n. 1 + line_feeds (take n text)) same ∙ sym y.line_is)
-    (λ differ. absurd (⊎_elim
-    (λ lt. x.cannot (can_begin_before text (x.at + 1) y.at (omega arith) y.can_begin))
-    (λ gt. y.cannot (can_begin_before text (y.at + 1) x.at (omega arith) x.can_begin))
-    differ))
-    (cases_order x.at y.at)
+-- no line feed stands in a token's opening quote
+pub sign_has_none : (line_feeds (39 ∷ []) ≡ 0) × (line_feeds (34 ∷ []) ≡ 0)
+unfolding is_line_feed
+sign_has_none = (refl, refl)
+
+take_quote : (front : List ℕ) (quote : ℕ) (others rest : List ℕ) → line_feeds (quote ∷ []) ≡ 0 → line_feeds (take (length front + 1) (front ++ ((quote ∷ others) ++ rest))) ≡ line_feeds front
+take_quote front quote others rest none =
+    let bytes : front ++ ((quote ∷ others) ++ rest) ≡ (front ++ quote ∷ []) ++ (others ++ rest) = sym (append_assoc front (quote ∷ []) (others ++ rest)) in
+    ap (λ xs. line_feeds (take (length front + 1) xs)) bytes
+    ∙ ap line_feeds (take_at (front ++ quote ∷ []) (others ++ rest) (length front + 1) (length_push front quote))
+    ∙ omega (arith, line_feeds-append front (quote ∷ []), none)
+
+take_front : (front after : List ℕ) → line_feeds (take (length front + 0) (front ++ after)) ≡ line_feeds front
+take_front front after = let there : length front ≡ length front + 0 = omega arith in ap line_feeds (take_at front after (length front + 0) there)
+
+-- the line feeds before a token's range
+before_range : (front bs rest : List ℕ) (kind : TokenKind) → IsLexeme kind bs → line_feeds (take (length front + margin kind) (front ++ (bs ++ rest))) ≡ line_feeds front
+before_range front bs rest Word is = take_front front (bs ++ rest)
+before_range front bs rest Quoted is =
+    ap (λ xs. line_feeds (take (length front + 1) (front ++ (xs ++ rest)))) is.bytes_are ∙ take_quote front 39 (is.content ++ 39 ∷ []) rest sign_has_none.0
+before_range front bs rest Number is = take_front front (bs ++ rest)
+before_range front bs rest Text is =
+    ap (λ xs. line_feeds (take (length front + 1) (front ++ (xs ++ rest)))) is.bytes_are ∙ take_quote front 34 (is.content ++ 34 ∷ []) rest sign_has_none.1
+before_range front bs rest (Symbol byte) is = take_front front (bs ++ rest)
+before_range front bs rest Colons is = take_front front (bs ++ rest)
+before_range front bs rest Percents is = take_front front (bs ++ rest)
 
 -- each token's line is one more than the line feeds before it
-abbrev LinesAre : List ℕ → List Token → Type 0
+abbrev pub LinesAre : List ℕ → List Token → Type 0
 LinesAre text tokens = All (λ token. token.line ≡ 1 + line_feeds (take token.start text)) tokens
 
 -- after one more part
@@ -167,15 +129,22 @@ lines_after front bs parts lines =
     (subst (λ l. LinesAre ((front ++ bs) ++ text_of parts) (tokens_in (length front + length bs) l parts)) lines_are
     (subst (λ p. LinesAre ((front ++ bs) ++ text_of parts) (tokens_in p (1 + line_feeds (front ++ bs)) parts)) (length-append front bs) lines))
 
-lines_in : (front : List ℕ) (parts : List Part) → LinesAre (front ++ text_of parts) (tokens_in (length front) (1 + line_feeds front) parts)
-lines_in front [] = All-nil (λ token. token.line ≡ 1 + line_feeds (take token.start (front ++ [])))
-lines_in front (gap bs ∷ parts) = lines_after front bs parts (lines_in (front ++ bs) parts)
-lines_in front (lexeme kind bs ∷ parts) =
-    let text = front ++ (bs ++ text_of parts) in
-    let start : 1 + line_feeds front ≡ 1 + line_feeds (take (length front) text) = ap (λ xs. 1 + line_feeds xs) (sym (take_at front (bs ++ text_of parts) (length front) refl)) in
-    All-cons (λ token. token.line ≡ 1 + line_feeds (take token.start text)) _ _ start (lines_after front bs parts (lines_in (front ++ bs) parts))
+lines_in : (front : List ℕ) (parts : List Part) (rest : List ℕ) → AreParts parts rest → LinesAre (front ++ text_of parts) (tokens_in (length front) (1 + line_feeds front) parts)
+lines_in front [] rest are = All-nil (λ token. token.line ≡ 1 + line_feeds (take token.start (front ++ [])))
+lines_in front (gap bs ∷ parts) rest are = lines_after front bs parts (lines_in (front ++ bs) parts rest are.1)
+lines_in front (lexeme kind bs ∷ parts) rest are =
+    All-cons (λ token. token.line ≡ 1 + line_feeds (take token.start (front ++ (bs ++ text_of parts)))) _ _
+    (ap (λ n. 1 + n) (sym (before_range front bs (text_of parts) kind are.0.0)))
+    (lines_after front bs parts (lines_in (front ++ bs) parts rest are.1))
 
 -- the tokens of a list are on the lines that the text says
 pub list_has_lines : (text : List ℕ) (tokens : List Token) → IsTokenList text tokens → LinesAre text tokens
 list_has_lines text tokens list =
-    subst (LinesAre text) (sym list.tokens_are) (subst (λ xs. LinesAre xs (tokens_in 0 1 list.parts)) (sym list.text_is) (lines_in [] list.parts))
+    let mark = take (mark_len text) text in
+    let size : length mark ≡ mark_len text = length-take-le (mark_len text) text (mark_is text).0 in
+    let feeds : 1 + line_feeds mark ≡ 1 = omega (arith, (mark_is text).1) in
+    let whole : mark ++ text_of list.parts ≡ text = ap (λ xs. mark ++ xs) (sym list.text_is) ∙ take-append-drop (mark_len text) text in
+    subst (LinesAre text) (sym list.tokens_are)
+    (subst (λ n. LinesAre text (tokens_in n 1 list.parts)) size
+    (subst (λ l. LinesAre text (tokens_in (length mark) l list.parts)) feeds
+    (subst (λ xs. LinesAre xs (tokens_in (length mark) (1 + line_feeds mark) list.parts)) whole (lines_in mark list.parts [] list.are_parts))))

@@ -1,25 +1,20 @@
 -- One step through a text: from a piece's place to the place after it.
-use Rattle.std.proofs.Common.{◌≡◌, ℕ, zero, suc, ◌+◌, ◌<◌, ◌≤◌, List, [], ◌∷◌, ◌++◌, length, get_or, take, drop, cond, Bool, true, false, Some, None, Result, Ok, Err, refl, sym, ap, ◌∙◌, subst, arith, append_assoc, nat_lt, eqb}
-use Rattle.std.specs.Prelude.{IfSome, IfOk, IsSome}
-use Rattle.std.proofs.Math.Numerals.{add-one, one-add}
-use Rattle.std.proofs.lemmas.Bool.{ne_eqb, cond_both, cond-false, eqb-true, false≢true, le-ltb}
-use Rattle.std.specs.List.{prefix_len}
-use Rattle.std.proofs.lemmas.List.{drop_more, drop_all, drop-drop, append-nil, length-drop, length-take}
-use Rattle.std.proofs.lemmas.Result.{IfOk-at_ok}
-use Rattle.std.specs.Option.{is_some}
-use Rattle.std.proofs.lemmas.List.Sums.{sum_by-append, count_by-le-length}
-use Rattle.vsd_text.specs.Bytes.{is_line_feed, is_run_byte, is_digit, is_letter, is_separator, is_printable}
-use Rattle.vsd_text.specs.Tokens.{first_piece, twin_or_symbol, line_feeds, tokens_from, tokens_of, tokens_at, before, with_piece, refusal_of, text_limit}
+use Rattle.std.proofs.Common.{◌≡◌, true, rules, ℕ, zero, suc, ◌+◌, ◌<◌, ◌≤◌, List, [], ◌∷◌, ◌++◌, length, get_or, take, drop, Option, Some, None, Result, Ok, Err, refl, sym, ap, ◌∙◌, arith, append_assoc, nat_lt, eqb}
+use Rattle.std.specs.Prelude.{All, IfSome}
+use Rattle.std.proofs.Math.Numerals.{add-one}
+use Rattle.std.proofs.lemmas.Bool.{cond_both, cond-false, eqb-true, false≢true, and_parts, le-ltb}
+use Rattle.std.specs.List.{starts_with}
+use Rattle.std.proofs.lemmas.List.{drop_more, drop_all, drop-drop, append-nil, length-drop}
+use Rattle.vsd_text.specs.Bytes.{is_separator, is_line_feed}
+use Rattle.vsd_text.specs.Tokens.{first_piece, gap_piece, line_feeds, mark_len, byte_order_mark, tokens_from, tokens_of, token_at, tokens_at, before, with_piece, refusal_of, text_limit, LiesWithin}
 use Rattle.vsd_text.specs.declared.tokens.Token.{Token}
 use Rattle.vsd_text.specs.declared.tokens.TokenKind.{TokenKind}
-use Rattle.vsd_text.specs.declared.tokens.TokenKind.TheVariants.{Colons, Percents}
 use Rattle.vsd_text.specs.declared.tokens.LexError.{LexError}
-use Rattle.vsd_text.specs.declared.tokens.LexError.TheVariants.{BadByte, TooLong, Memory}
+use Rattle.vsd_text.specs.declared.tokens.LexError.TheVariants.{BadByte, OpenComment, OpenQuote, TooLong, Memory}
 use Rattle.vsd_text.specs.declared.pieces.Piece.{Piece}
-
--- line feeds, one byte on
-line_feeds-cons : (b : ℕ) (bs : List ℕ) → line_feeds (b ∷ bs) ≡ line_feeds (b ∷ []) + line_feeds bs
-line_feeds-cons b bs = sum_by-append (λ x. cond (is_line_feed x) 1 0) (b ∷ []) bs
+use Rattle.std.proofs.lemmas.List.Elements.{All-nil, All-cons}
+use Rattle.vsd_text.proofs.Classes.{separator_is_no_run_byte}
+use Rattle.vsd_text.proofs.LineFeeds.{line_feeds-cons, piece_has_margins}
 
 -- passing over n bytes is to go on after them, on the line that they lead to
 pub tokens_from-passing : (place line n : ℕ) (bs : List ℕ) → n ≤ length bs → tokens_from place line n bs ≡ tokens_from (place + n) (line + line_feeds (take n bs)) 0 (drop n bs)
@@ -63,61 +58,6 @@ tokens_from-piece text at line piece lt is =
     ∙ ap (λ bs. before (tokens_at at line piece) (tokens_from (at + 1 + piece.more) (line + line_feeds (byte ∷ take piece.more (drop (at + 1) text))) 0 bs)) rest
     ∙ ap (λ bs. before (tokens_at at line piece) (tokens_from (at + 1 + piece.more) (line + line_feeds bs) 0 (drop (at + 1 + piece.more) text))) (sym first)
 
--- what passes a test that fails at the line feed is none
-not_line_feed : (test : ℕ → Bool) → test 10 ≡ false → (b : ℕ) → test b ≡ true → is_line_feed b ≡ false
-unfolding is_line_feed
-not_line_feed test fails b passes = ne_eqb b 10 (λ same. let here : test 10 ≡ true = subst (λ x. test x ≡ true) same passes in cc)
-
-one_byte : (test : ℕ → Bool) → test 10 ≡ false → (b : ℕ) → test b ≡ true → line_feeds (b ∷ []) ≡ 0
-one_byte test fails b passes = rw (not_line_feed test fails b passes) refl
-
-run_byte_fails : is_run_byte 10 ≡ false
-unfolding is_run_byte is_letter is_digit
-run_byte_fails = refl
-
-digit_fails : is_digit 10 ≡ false
-unfolding is_digit
-digit_fails = refl
-
-letter_fails : is_letter 10 ≡ false
-unfolding is_letter
-letter_fails = refl
-
-printable_fails : is_printable 10 ≡ false
-unfolding is_printable
-printable_fails = refl
-
-run_has_none : (bs : List ℕ) → line_feeds (take (prefix_len is_run_byte bs) bs) ≡ 0
-run_has_none [] = refl
-run_has_none (b ∷ bs) =
-    cond_both (is_run_byte b) (1 + prefix_len is_run_byte bs) 0 (λ n. line_feeds (take n (b ∷ bs)) ≡ 0)
-    (λ passes. rw one-add (omega (arith, line_feeds-cons b (take (prefix_len is_run_byte bs) bs), one_byte is_run_byte run_byte_fails b passes, run_has_none bs)))
-    (λ fails. refl)
-
-run_after_has_none : (test : ℕ → Bool) → test 10 ≡ false → (b : ℕ) (bs : List ℕ) → test b ≡ true → line_feeds (b ∷ take (prefix_len is_run_byte bs) bs) ≡ 0
-run_after_has_none test fails b bs passes = omega (arith, line_feeds-cons b (take (prefix_len is_run_byte bs) bs), one_byte test fails b passes, run_has_none bs)
-
--- no line feed stands in a token
-abbrev HasNoLineFeed : ℕ → List ℕ → Result Piece LexError → Type 0
-HasNoLineFeed b bs r = IfOk r (λ piece. IsSome piece.kind → line_feeds (b ∷ take piece.more bs) ≡ 0)
-
-twin_has_none : (twin : TokenKind) (b : ℕ) (bs : List ℕ) → is_line_feed b ≡ false → HasNoLineFeed b bs (twin_or_symbol twin b bs)
-unfolding twin_or_symbol
-twin_has_none twin b [] none = λ _. rw none refl
-twin_has_none twin b (c ∷ bs) none =
-    cond_both (eqb c b) _ _ (HasNoLineFeed b (c ∷ bs)) (λ same _. let is : c ≡ b = eqb-true c b same in rw (is, none) refl) (λ _ _. rw none refl)
-
-no_line_feed : (line b : ℕ) (bs : List ℕ) → HasNoLineFeed b bs (first_piece line b bs)
-unfolding first_piece
-no_line_feed line b bs =
-    cond_both (is_separator b) _ _ (HasNoLineFeed b bs) (λ _ none. absurd (false≢true none))
-    (λ _. cond_both (is_digit b) _ _ (HasNoLineFeed b bs) (λ digit _. run_after_has_none is_digit digit_fails b bs digit)
-    (λ _. cond_both (is_letter b) _ _ (HasNoLineFeed b bs) (λ letter _. run_after_has_none is_letter letter_fails b bs letter)
-    (λ _. cond_both (eqb b 58) _ _ (HasNoLineFeed b bs) (λ colon. twin_has_none Colons b bs (not_line_feed (λ x. eqb x 58) refl b colon))
-    (λ _. cond_both (eqb b 37) _ _ (HasNoLineFeed b bs) (λ percent. twin_has_none Percents b bs (not_line_feed (λ x. eqb x 37) refl b percent))
-    (λ _. cond_both (is_printable b) _ _ (HasNoLineFeed b bs) (λ printable _. one_byte is_printable printable_fails b printable)
-    (λ _. tt))))))
-
 -- where no piece stands, the tokens end with its refusal
 pub tokens_from-refused : (text : List ℕ) (at line : ℕ) (e : LexError) → at < length text → first_piece line (get_or text at 0) (drop (at + 1) text) ≡ Err e → tokens_from at line 0 (drop at text) ≡ Err e
 unfolding tokens_from with_piece
@@ -128,17 +68,68 @@ tokens_from-refused text at line e lt is =
 -- an error that a reading gives is its refusal, or want of memory
 pub gives_refusal : (reading : Result (List Token) LexError) (e : LexError) → reading ≡ Err e → IfSome (refusal_of e) (λ r. reading ≡ Err r)
 gives_refusal reading (BadByte line) is = is
+gives_refusal reading (OpenComment line) is = is
+gives_refusal reading (OpenQuote line) is = is
 gives_refusal reading TooLong is = is
 gives_refusal reading Memory is = tt
 
+-- no line feed stands in the byte order mark
+pub mark_is : (text : List ℕ) → (mark_len text ≤ length text) × (line_feeds (take (mark_len text) text) ≡ 0)
+unfolding mark_len is_line_feed
+mark_is [] = (omega arith, refl)
+mark_is (a ∷ []) =
+    cond_both (starts_with eqb (a ∷ []) byte_order_mark) 3 0 (λ n. (n ≤ 1) × (line_feeds (take n (a ∷ [])) ≡ 0))
+    (λ is. absurd (false≢true (and_parts _ _ is).1)) (λ _. (omega arith, refl))
+mark_is (a ∷ b ∷ []) =
+    cond_both (starts_with eqb (a ∷ b ∷ []) byte_order_mark) 3 0 (λ n. (n ≤ 2) × (line_feeds (take n (a ∷ b ∷ [])) ≡ 0))
+    (λ is. absurd (false≢true (and_parts _ _ (and_parts _ _ is).1).1)) (λ _. (omega arith, refl))
+mark_is (a ∷ b ∷ c ∷ rest) =
+    cond_both (starts_with eqb (a ∷ b ∷ c ∷ rest) byte_order_mark) 3 0 (λ n. (n ≤ length (a ∷ b ∷ c ∷ rest)) × (line_feeds (take n (a ∷ b ∷ c ∷ rest)) ≡ 0))
+    (λ is.
+    let first = and_parts _ _ is in
+    let second = and_parts _ _ first.1 in
+    let third = and_parts _ _ second.1 in
+    let first_is : a ≡ 239 = sym (eqb-true 239 a first.0) in
+    let second_is : b ≡ 187 = sym (eqb-true 187 b second.0) in
+    let third_is : c ≡ 191 = sym (eqb-true 191 c third.0) in
+    (omega arith, rw (first_is, second_is, third_is) refl))
+    (λ _. (omega arith, refl))
+
 -- how a text begins, if it isn't too long
-pub tokens_of-short : (text : List ℕ) → length text ≤ text_limit → tokens_of text ≡ before [] (tokens_from 0 1 0 text)
+pub tokens_of-short : (text : List ℕ) → length text ≤ text_limit → tokens_of text ≡ before [] (tokens_from (mark_len text) 1 0 (drop (mark_len text) text))
 unfolding tokens_of before
-tokens_of-short text short = cond-false (nat_lt text_limit (length text)) _ _ (le-ltb _ _ short) ∙ same (tokens_from 0 1 0 text)
+tokens_of-short text short =
+    let n = mark_len text in
+    let mark = mark_is text in
+    let same_line : 1 + line_feeds (take n text) ≡ 1 = omega (arith, mark.1) in
+    let there : 0 + n ≡ n = omega arith in
+    cond-false (nat_lt text_limit (length text)) _ _ (le-ltb _ _ short)
+    ∙ tokens_from-passing 0 1 n text mark.0
+    ∙ ap (λ l. tokens_from (0 + n) l 0 (drop n text)) same_line
+    ∙ ap (λ p. tokens_from p 1 0 (drop n text)) there
+    ∙ same (tokens_from n 1 0 (drop n text))
   where
     same : (r : Result (List Token) LexError) → r ≡ before [] r
     same (Ok ts) = refl
     same (Err e) = refl
+
+-- no tokens before a reading
+before-nil : (r : Result (List Token) LexError) → before [] r ≡ r
+unfolding before
+before-nil (Ok ts) = refl
+before-nil (Err e) = refl
+
+-- a separator stands between tokens
+separator_piece : (line b : ℕ) (bs : List ℕ) → is_separator b ≡ true → first_piece line b bs ≡ gap_piece 0
+unfolding first_piece
+separator_piece line b bs separates = rw (separator_is_no_run_byte b separates, separates) refl
+
+-- passing over a separator
+tokens_from-separator : (at line b : ℕ) (bs : List ℕ) → is_separator b ≡ true → tokens_from at line 0 (b ∷ bs) ≡ tokens_from (at + 1) (line + line_feeds (b ∷ [])) 0 bs
+unfolding tokens_from with_piece tokens_at
+tokens_from-separator at line b bs separates =
+    ap (λ found. with_piece at line found (λ n. tokens_from (at + 1) (line + line_feeds (b ∷ [])) n bs)) (separator_piece line b bs separates)
+    ∙ before-nil _
 
 module _ (text : List ℕ) (tokens : List Token) (at line : ℕ) (reached : tokens_of text ≡ before tokens (tokens_from at line 0 (drop at text))) where
   -- at the end of the text
@@ -151,34 +142,26 @@ module _ (text : List ℕ) (tokens : List Token) (at line : ℕ) (reached : toke
   unfolding before
   tokens_of-refused e lt is = reached ∙ ap (before tokens) (tokens_from-refused text at line e lt is)
 
-  module _ (piece : Piece) (lt : at + piece.more < length text) (is : first_piece line (get_or text at 0) (drop (at + 1) text) ≡ Ok piece) where
-    after_piece : tokens_of text ≡ before (tokens ++ tokens_at at line piece) (tokens_from (at + 1 + piece.more) (line + line_feeds (take (piece.more + 1) (drop at text))) 0 (drop (at + 1 + piece.more) text))
-    after_piece = reached ∙ ap (before tokens) (tokens_from-piece text at line piece lt is) ∙ before-before tokens _ _
+  -- after a separator
+  pub tokens_of-after_separator : at < length text → is_separator (get_or text at 0) ≡ true → tokens_of text ≡ before tokens (tokens_from (at + 1) (line + line_feeds (get_or text at 0 ∷ [])) 0 (drop (at + 1) text))
+  tokens_of-after_separator lt separates =
+      reached ∙ ap (λ bs. before tokens (tokens_from at line 0 bs)) (drop_more text at 0 lt)
+      ∙ ap (before tokens) (tokens_from-separator at line (get_or text at 0) (drop (at + 1) text) separates)
 
-    -- after a gap
-    pub after_gap : (feeds : ℕ) → piece.kind ≡ None → feeds ≡ line_feeds (take (piece.more + 1) (drop at text)) → tokens_of text ≡ before tokens (tokens_from (at + 1 + piece.more) (line + feeds) 0 (drop (at + 1 + piece.more) text))
-    unfolding tokens_at
-    after_gap feeds none are =
-        let nothing : tokens_at at line piece ≡ [] = rw none refl in
-        after_piece
-        ∙ ap (λ ts. before (tokens ++ ts) (tokens_from (at + 1 + piece.more) (line + line_feeds (take (piece.more + 1) (drop at text))) 0 (drop (at + 1 + piece.more) text))) nothing
-        ∙ ap (λ ts. before ts (tokens_from (at + 1 + piece.more) (line + line_feeds (take (piece.more + 1) (drop at text))) 0 (drop (at + 1 + piece.more) text))) (append-nil tokens)
-        ∙ ap (λ n. before tokens (tokens_from (at + 1 + piece.more) (line + n) 0 (drop (at + 1 + piece.more) text))) (sym are)
+  -- after a piece
+  pub tokens_of-after : (piece : Piece) → at + piece.more < length text → first_piece line (get_or text at 0) (drop (at + 1) text) ≡ Ok piece → tokens_of text ≡ before (tokens ++ tokens_at at line piece) (tokens_from (at + (1 + piece.more)) (line + line_feeds (take (piece.more + 1) (drop at text))) 0 (drop (at + (1 + piece.more)) text))
+  tokens_of-after piece lt is =
+      let there : at + 1 + piece.more ≡ at + (1 + piece.more) = omega arith in
+      reached ∙ ap (before tokens) (tokens_from-piece text at line piece lt is) ∙ before-before tokens _ _
+      ∙ ap (λ n. before (tokens ++ tokens_at at line piece) (tokens_from n (line + line_feeds (take (piece.more + 1) (drop at text))) 0 (drop n text))) there
 
-    -- after a token
-    pub after_token : (kind : TokenKind) → piece.kind ≡ Some kind → tokens_of text ≡ before (tokens ++ record { kind = kind; start = at; end = at + 1 + piece.more; line = line } ∷ []) (tokens_from (at + 1 + piece.more) line 0 (drop (at + 1 + piece.more) text))
-    unfolding tokens_at
-    after_token kind some =
-        let token : Token = record { kind = kind; start = at; end = at + 1 + piece.more; line = line } in
-        let one : tokens_at at line piece ≡ token ∷ [] = rw some refl in
-        let split : drop at text ≡ get_or text at 0 ∷ drop (at + 1) text = drop_more text at 0 (omega arith) in
-        let none : line_feeds (take (piece.more + 1) (drop at text)) ≡ 0 =
-        rw (split, add-one) (IfOk-at_ok (λ p. IsSome p.kind → line_feeds (get_or text at 0 ∷ take p.more (drop (at + 1) text)) ≡ 0) is (no_line_feed line (get_or text at 0) (drop (at + 1) text)) (ap is_some some)) in
-        let same_line : line + line_feeds (take (piece.more + 1) (drop at text)) ≡ line = omega (arith, none) in
-        after_piece
-        ∙ ap (λ ts. before (tokens ++ ts) (tokens_from (at + 1 + piece.more) (line + line_feeds (take (piece.more + 1) (drop at text))) 0 (drop (at + 1 + piece.more) text))) one
-        ∙ ap (λ l. before (tokens ++ token ∷ []) (tokens_from (at + 1 + piece.more) l 0 (drop (at + 1 + piece.more) text))) same_line
-
--- a line feed takes a byte
-pub line_feeds-take : (n : ℕ) (bs : List ℕ) → line_feeds (take n bs) ≤ n
-line_feeds-take n bs = omega (arith, count_by-le-length is_line_feed (take n bs), length-take n bs)
+-- the token of a piece lies in the text
+pub tokens_at-inside : (text : List ℕ) (at line : ℕ) (piece : Piece) → at + piece.more < length text → first_piece line (get_or text at 0) (drop (at + 1) text) ≡ Ok piece → All (LiesWithin text) (tokens_at at line piece)
+unfolding tokens_at token_at
+tokens_at-inside text at line piece lt is = by_kind piece.kind refl
+  where
+    by_kind : (kind : Option TokenKind) → piece.kind ≡ kind → All (LiesWithin text) (tokens_at at line piece)
+    by_kind None none = rw none (All-nil (LiesWithin text))
+    by_kind (Some kind) some =
+        let margins = piece_has_margins text at line piece kind lt is some in
+        rw some (All-cons (LiesWithin text) _ [] (record { ordered = omega arith; inside = omega arith }) (All-nil (LiesWithin text)))

@@ -1,5 +1,5 @@
 -- The kinds of byte.
-use Rattle.std.specs.Prelude.{ℕ, Bool, ◌==◌, ◌&&◌, ◌||◌, nat_le}
+use Rattle.std.specs.Prelude.{ℕ, Bool, ◌==◌, ◌&&◌, ◌||◌, nat_le, not}
 
 -- tab, line feed, carriage return or space
 unfoldable pub is_separator : ℕ → Bool
@@ -20,6 +20,14 @@ is_letter b =
 -- a byte that may stand in a Word or a Number
 unfoldable pub is_run_byte : ℕ → Bool
 is_run_byte b = is_letter b || is_digit b
+
+-- a byte that may stand between single quotes: all from 32 to 126 but the quote and the backslash
+unfoldable pub is_quoted_byte : ℕ → Bool
+is_quoted_byte b = nat_le 32 b && nat_le b 38 || nat_le 40 b && nat_le b 91 || nat_le 93 b && nat_le b 126
+
+-- any byte but a line feed
+unfoldable pub is_line_byte : ℕ → Bool
+is_line_byte b = not (is_line_feed b)
 
 -- a byte that may stand in a token: one of the printable bytes
 unfoldable pub is_printable : ℕ → Bool

@@ -1,18 +1,20 @@
 -- The token list of a text.
-use Rattle.std.specs.Prelude.{◌≤◌, ℕ, zero, suc, ◌+◌, ◌==◌, nat_lt, Bool, false, if◌then◌else◌, List, [], ◌∷◌, ◌++◌, length, count_by, Option, Some, None, Result, Ok, Err}
-use Rattle.std.specs.List.{prefix_len}
+use Rattle.std.specs.Prelude.{◌≡◌, ◌≤◌, ℕ, slice_index, zero, suc, ◌+◌, ◌-◌, ◌==◌, ◌&&◌, ◌||◌, nat_eq, nat_lt, Bool, true, false, if◌then◌else◌, List, [], ◌∷◌, ◌++◌, length, drop, count_by, Option, Some, None, Result, Ok, Err}
+use Rattle.std.specs.List.{prefix_len, starts_with}
 use Rattle.std.specs.Option.{option_map, option_to_list}
 use Rattle.vsd_text.specs.declared.tokens.TokenKind.{TokenKind}
-use Rattle.vsd_text.specs.declared.tokens.TokenKind.TheVariants.{Word, Number, Symbol, Colons, Percents}
+use Rattle.vsd_text.specs.declared.tokens.TokenKind.TheVariants.{Word, Quoted, Number, Text, Symbol, Colons, Percents}
 use Rattle.vsd_text.specs.declared.tokens.Token.{Token}
 use Rattle.vsd_text.specs.declared.tokens.LexError.{LexError}
-use Rattle.vsd_text.specs.declared.tokens.LexError.TheVariants.{BadByte, TooLong, Memory}
+use Rattle.vsd_text.specs.declared.tokens.LexError.TheVariants.{BadByte, OpenComment, OpenQuote, TooLong, Memory}
 use Rattle.vsd_text.specs.declared.pieces.Piece.{Piece}
-use Rattle.vsd_text.specs.Bytes.{is_separator, is_line_feed, is_digit, is_letter, is_run_byte, is_printable}
+use Rattle.vsd_text.specs.Bytes.{is_separator, is_line_feed, is_digit, is_run_byte, is_printable, is_quoted_byte, is_line_byte}
 
 -- the refusal that an error is: want of memory is none
 abbrev pub refusal_of : LexError → Option LexError
 refusal_of (BadByte line) = Some (BadByte line)
+refusal_of (OpenComment line) = Some (OpenComment line)
+refusal_of (OpenQuote line) = Some (OpenQuote line)
 refusal_of TooLong = Some TooLong
 refusal_of Memory = None
 
@@ -42,23 +44,76 @@ token_piece kind n = Ok (record { kind = Some kind; more = n })
 unfoldable pub twin_or_symbol : TokenKind → ℕ → List ℕ → Result Piece LexError
 twin_or_symbol twin b bs = if begins_with b bs then token_piece twin 1 else token_piece (Symbol b) 0
 
+-- How many of the bytes stand before the double quote or the line feed that ends a Text token. A
+-- backslash takes the next byte along: `taken` says that one stands before the first byte.
+unfoldable pub text_len : Bool → List ℕ → ℕ
+text_len taken [] = 0
+text_len true (b ∷ bs) = 1 + text_len false bs
+text_len false (b ∷ bs) = if b == 34 || b == 10 then 0 else 1 + text_len (b == 92) bs
+
+-- how many of the bytes stand before the first `*/`
+unfoldable pub comment_len : List ℕ → ℕ
+comment_len [] = 0
+comment_len (b ∷ bs) = if b == 42 && begins_with 47 bs then 0 else 1 + comment_len bs
+
+-- A token between two of this quote, with n bytes between them, where these bytes follow.
+unfoldable pub closed_by : ℕ → TokenKind → ℕ → ℕ → List ℕ → Result Piece LexError
+closed_by quote kind line n [] = Err (OpenQuote line)
+closed_by quote kind line n (b ∷ bs) =
+    if b == quote then token_piece kind (n + 1) else (if b == 10 then Err (OpenQuote line) else Err (BadByte line))
+
+-- A comment from `/*` on, with n bytes after that, where these bytes follow.
+unfoldable pub closed_comment : ℕ → ℕ → List ℕ → Result Piece LexError
+closed_comment line n [] = Err (OpenComment line)
+closed_comment line n (b ∷ bs) = gap_piece (n + 3)
+
+-- what begins with a `/`: a comment, or the Symbol
+unfoldable pub slash_piece : ℕ → List ℕ → Result Piece LexError
+slash_piece line [] = token_piece (Symbol 47) 0
+slash_piece line (b ∷ bs) =
+    if b == 47 then gap_piece (prefix_len is_line_byte bs + 1)
+    else (if b == 42 then closed_comment line (comment_len bs) (drop (comment_len bs) bs)
+    else token_piece (Symbol 47) 0)
+
+-- what a run is that begins with this byte
+abbrev pub run_kind : ℕ → TokenKind
+run_kind b = if is_digit b then Number else Word
+
 -- What stands where no token is begun, on this line, at the byte b with the bytes bs after it.
 unfoldable pub first_piece : ℕ → ℕ → List ℕ → Result Piece LexError
 first_piece line b bs =
-    if is_separator b then gap_piece 0
-    else (if is_digit b then token_piece Number (prefix_len is_run_byte bs)
-    else (if is_letter b then token_piece Word (prefix_len is_run_byte bs)
+    if is_run_byte b then token_piece (run_kind b) (prefix_len is_run_byte bs)
+    else (if is_separator b then gap_piece 0
+    else (if b == 39 then closed_by 39 Quoted line (prefix_len is_quoted_byte bs) (drop (prefix_len is_quoted_byte bs) bs)
+    else (if b == 34 then closed_by 34 Text line (text_len false bs) (drop (text_len false bs) bs)
+    else (if b == 47 then slash_piece line bs
     else (if b == 58 then twin_or_symbol Colons b bs
     else (if b == 37 then twin_or_symbol Percents b bs
     else (if is_printable b then token_piece (Symbol b) 0
-    else Err (BadByte line))))))
+    else Err (BadByte line))))))))
+
+-- the piece at this place of a text, whatever its line
+abbrev pub IsPieceAt : List ℕ → ℕ → Piece → Type 0
+IsPieceAt text at piece = (line : ℕ) × (first_piece line (slice_index text at) (drop (at + 1) text) ≡ Ok piece)
+
+-- how many bytes on each side of a token are outside its range: its quotes
+abbrev pub margin : TokenKind → ℕ
+margin Quoted = 1
+margin Text = 1
+margin _ = 0
+
+-- the token that begins at this place and line and has n bytes after its first one, quotes included
+unfoldable pub token_at : ℕ → ℕ → TokenKind → ℕ → Token
+token_at place line kind n = record {
+  kind = kind;
+  start = place + margin kind;
+  end = place + 1 + n - margin kind;
+  line = line;
+}
 
 -- the token, if it is one, of a piece that begins at this place and line
 unfoldable pub tokens_at : ℕ → ℕ → Piece → List Token
-tokens_at place line piece = option_to_list (option_map token_of piece.kind)
-  where
-    token_of : TokenKind → Token
-    token_of kind = record { kind = kind; start = place; end = place + 1 + piece.more; line = line }
+tokens_at place line piece = option_to_list (option_map (λ kind. token_at place line kind piece.more) piece.kind)
 
 -- these tokens before those of what follows them
 unfoldable pub before : List Token → Result (List Token) LexError → Result (List Token) LexError
@@ -84,6 +139,14 @@ tokens_from place line zero (b ∷ bs) =
 abbrev pub text_limit : ℕ
 text_limit = 4194304
 
+-- the bytes EF BB BF, which stand for nothing at the very start of a text
+abbrev pub byte_order_mark : List ℕ
+byte_order_mark = 239 ∷ 187 ∷ 191 ∷ []
+
+-- how many bytes of the text are its byte order mark
+unfoldable pub mark_len : List ℕ → ℕ
+mark_len text = if starts_with nat_eq text byte_order_mark then 3 else 0
+
 -- the tokens of a text, or its first refusal
 unfoldable pub tokens_of : List ℕ → Result (List Token) LexError
-tokens_of text = if nat_lt text_limit (length text) then Err TooLong else tokens_from 0 1 0 text
+tokens_of text = if nat_lt text_limit (length text) then Err TooLong else tokens_from 0 1 (mark_len text) text

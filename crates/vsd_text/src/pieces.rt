@@ -1,10 +1,9 @@
 // What a text is cut into: tokens and what stands between them.
-ghost use Rattle.std.specs.Prelude.{◌≡◌, ◌+◌, ◌<◌, ◌≤◌, length, drop, IfOk, slice_index};
+ghost use Rattle.std.specs.Prelude.{◌≡◌, ◌≢◌, ◌+◌, ◌<◌, ◌≤◌, false, length, drop, IfOk, slice_index};
 ghost use Rattle.std.specs.List.{prefix_len};
-ghost use Rattle.vsd_text.specs.Bytes.{is_run_byte};
-ghost use Rattle.vsd_text.specs.Tokens.{first_piece, twin_or_symbol};
+ghost use Rattle.vsd_text.specs.Tokens.{run_kind, first_piece, twin_or_symbol, slash_piece, closed_by, text_len, comment_len};
 
-use crate::bytes::{is_digit, is_letter, is_printable, is_run_byte, is_separator};
+use crate::bytes::{ByteTest, LineByte, QuotedByte, RunByte, is_digit, is_printable, is_separator};
 use crate::tokens::{LexError, TokenKind};
 
 /// A token, or bytes between tokens, at a place of a text.
@@ -17,16 +16,13 @@ pub(crate) struct Piece {
 }
 
 impl Piece {
-    fn gap() -> Piece
-        ensures { result ≡ record { kind = None; more = 0 } }
+    fn gap(more: usize) -> Piece
+        ensures { result ≡ record { kind = None; more = more } }
     {
-        Piece {
-            kind: None,
-            more: 0,
-        }
+        Piece { kind: None, more }
     }
 
-    fn lexeme(kind: TokenKind, more: usize) -> Piece
+    fn token(kind: TokenKind, more: usize) -> Piece
         ensures { result ≡ record { kind = Some kind; more = more } }
     {
         Piece {
@@ -36,17 +32,122 @@ impl Piece {
     }
 }
 
-// How many bytes from `at` on may stand in a Word or a Number.
-fn run_len(text: &[u8], at: usize) -> usize
+// How many bytes from `at` on pass the test.
+fn passing_len<T: ByteTest>(text: &[u8], at: usize) -> usize
     requires { at ≤ length text.now }
-    ensures exact { result ≡ prefix_len is_run_byte (drop at text.now) }
+    ensures exact { result ≡ prefix_len T.passes (drop at text.now) }
     ensures inside { at + result ≤ length text.now }
 {
     let mut end = at;
-    while end < text.len() && is_run_byte(text[end]) {
+    while end < text.len() && T::passes(text[end]) {
         end += 1;
     }
     end - at
+}
+
+// What a run is that begins with this byte.
+fn run_kind(byte: u8) -> TokenKind
+    ensures { result ≡ run_kind byte }
+{
+    if is_digit(byte) {
+        TokenKind::Number
+    } else {
+        TokenKind::Word
+    }
+}
+
+// How many bytes the one at `at` takes in a Text token: a backslash takes the next one along.
+#[tactic(auto, unfolding(crate::specs::Tokens::text_len))]
+fn taken_len(text: &[u8], at: usize) -> usize
+    requires in_range { at < length text.now }
+    requires no_quote { slice_index text.now at ≢ 34 }
+    requires no_line_feed { slice_index text.now at ≢ 10 }
+    ensures exact { text_len false (drop at text.now) ≡ result + text_len false (drop (at + result) text.now) }
+    ensures inside { at + result ≤ length text.now }
+    ensures positive { 0 < result }
+{
+    if text[at] == b'\\' && at + 1 < text.len() {
+        2
+    } else {
+        1
+    }
+}
+
+// How many bytes from `at` on stand before the double quote or the line feed that ends a Text token.
+#[tactic(auto, unfolding(crate::specs::Tokens::text_len))]
+fn text_len(text: &[u8], at: usize) -> usize
+    requires { at ≤ length text.now }
+    ensures exact { result ≡ text_len false (drop at text.now) }
+    ensures inside { at + result ≤ length text.now }
+{
+    let mut end = at;
+    while end < text.len() && text[end] != b'"' && text[end] != b'\n' {
+        end += taken_len(text, end);
+    }
+    end - at
+}
+
+// How many bytes from `at` on stand before the first `*/`.
+#[tactic(auto, unfolding(crate::specs::Tokens::comment_len))]
+fn comment_len(text: &[u8], at: usize) -> usize
+    requires { at ≤ length text.now }
+    ensures exact { result ≡ comment_len (drop at text.now) }
+    ensures inside { at + result ≤ length text.now }
+    ensures closed { at + result < length text.now → at + result + 1 < length text.now }
+{
+    let mut end = at;
+    while end < text.len()
+        && !(text[end] == b'*' && end + 1 < text.len() && text[end + 1] == b'/')
+    {
+        end += 1;
+    }
+    end - at
+}
+
+// The token between the quote at `at` and the next one, with this many bytes between them.
+#[tactic(auto, unfolding(crate::specs::Tokens::closed_by))]
+fn quote_at(
+    text: &[u8],
+    at: usize,
+    len: usize,
+    kind: TokenKind,
+    line: u32,
+) -> Result<Piece, LexError>
+    requires { at + 1 + len ≤ length text.now }
+    ensures exact { result ≡ closed_by (slice_index text.now at) kind line len (drop (at + 1 + len) text.now) }
+    ensures inside { IfOk result (λ piece. at + piece.more < length text.now) }
+{
+    let end = at + 1 + len;
+    if end == text.len() {
+        Err(LexError::OpenQuote { line })
+    } else if text[end] == text[at] {
+        Ok(Piece::token(kind, len + 1))
+    } else if text[end] == b'\n' {
+        Err(LexError::OpenQuote { line })
+    } else {
+        Err(LexError::BadByte { line })
+    }
+}
+
+// The comment or the Symbol that begins with the `/` at `at`.
+#[tactic(auto, unfolding(crate::specs::Tokens::slash_piece, crate::specs::Tokens::closed_comment))]
+fn slash_at(text: &[u8], at: usize, line: u32) -> Result<Piece, LexError>
+    requires { at < length text.now }
+    ensures exact { result ≡ slash_piece line (drop (at + 1) text.now) }
+    ensures inside { IfOk result (λ piece. at + piece.more < length text.now) }
+{
+    let next = at + 1;
+    if next < text.len() && text[next] == b'/' {
+        return Ok(Piece::gap(passing_len::<LineByte>(text, next + 1) + 1));
+    }
+    if next < text.len() && text[next] == b'*' {
+        let len = comment_len(text, next + 1);
+        if next + 1 + len == text.len() {
+            return Err(LexError::OpenComment { line });
+        }
+        return Ok(Piece::gap(len + 3));
+    }
+    Ok(Piece::token(TokenKind::Symbol(b'/'), 0))
 }
 
 // The one-byte Symbol at `at`, or the token of two such bytes where the next byte is the same.
@@ -58,9 +159,9 @@ fn twin_or_symbol(text: &[u8], at: usize, twin: TokenKind) -> Piece
 {
     let byte = text[at];
     if at + 1 < text.len() && text[at + 1] == byte {
-        Piece::lexeme(twin, 1)
+        Piece::token(twin, 1)
     } else {
-        Piece::lexeme(TokenKind::Symbol(byte), 0)
+        Piece::token(TokenKind::Symbol(byte), 0)
     }
 }
 
@@ -72,18 +173,28 @@ pub(crate) fn piece_at(text: &[u8], at: usize, line: u32) -> Result<Piece, LexEr
     ensures inside { IfOk result (λ piece. at + piece.more < length text.now) }
 {
     let byte = text[at];
-    if is_separator(byte) {
-        Ok(Piece::gap())
-    } else if is_digit(byte) {
-        Ok(Piece::lexeme(TokenKind::Number, run_len(text, at + 1)))
-    } else if is_letter(byte) {
-        Ok(Piece::lexeme(TokenKind::Word, run_len(text, at + 1)))
+    if RunByte::passes(byte) {
+        Ok(Piece::token(run_kind(byte), passing_len::<RunByte>(text, at + 1)))
+    } else if is_separator(byte) {
+        Ok(Piece::gap(0))
+    } else if byte == b'\'' {
+        quote_at(
+            text,
+            at,
+            passing_len::<QuotedByte>(text, at + 1),
+            TokenKind::Quoted,
+            line,
+        )
+    } else if byte == b'"' {
+        quote_at(text, at, text_len(text, at + 1), TokenKind::Text, line)
+    } else if byte == b'/' {
+        slash_at(text, at, line)
     } else if byte == b':' {
         Ok(twin_or_symbol(text, at, TokenKind::Colons))
     } else if byte == b'%' {
         Ok(twin_or_symbol(text, at, TokenKind::Percents))
     } else if is_printable(byte) {
-        Ok(Piece::lexeme(TokenKind::Symbol(byte), 0))
+        Ok(Piece::token(TokenKind::Symbol(byte), 0))
     } else {
         Err(LexError::BadByte { line })
     }
