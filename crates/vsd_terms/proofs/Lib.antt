@@ -1,3 +1,8 @@
+pub mod Induction
 pub mod KeyLemmas
+pub mod PlaceLemmas
 pub mod SizeLemmas
+pub mod SubstitutionLaws
+pub mod SubstitutionLemmas
 pub mod TermLemmas
+pub mod TextLemmas

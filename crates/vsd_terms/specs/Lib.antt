@@ -2,3 +2,5 @@ pub mod Equality
 pub mod Keys
 pub mod Names
 pub mod Size
+pub mod Substitution
+pub mod Text

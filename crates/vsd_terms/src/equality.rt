@@ -26,8 +26,9 @@ impl Eq for Term {
     ghost laws = { term_eq_equivalence };
 }
 
+/// Whether `a` and `b` are one tree.
 #[cycle(same)]
-fn same(a: &Term, b: &Term) -> bool
+pub fn same(a: &Term, b: &Term) -> bool
     ensures { IsTrue result ↔ (a.now ≡ b.now) }
 {
     match (a, b) {

@@ -1,5 +1,5 @@
 //! Type names, numbered in the order in which they are first seen.
-ghost use Rattle.std.specs.Prelude.{◌≡◌, ◌≢◌, ◌↔◌, ◌<◌, ◌≤◌, [], ◌∷◌, ◌++◌, length, slice_get, Contains, IsTrue, IsSome, IfOk, IfSome, MatchOption, OnErr, OnOk};
+ghost use Rattle.std.specs.Prelude.{◌≡◌, ◌↔◌, ◌<◌, [], ◌∷◌, ◌++◌, length, slice_get, Contains, IsTrue, IsSome, IfOk, IfSome, OnErr, OnOk};
 ghost use Rattle.vsd_terms.specs.Names.{AreNames, AddsName};
 
 use indexmap::IndexSet;

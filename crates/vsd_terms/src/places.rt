@@ -12,6 +12,3 @@ pub fn place_of(terms: &IndexSet<Term>, t: &Term) -> Option<usize>
 {
     terms.get_index_of(t)
 }
-
-#[cfg(test)]
-mod tests;

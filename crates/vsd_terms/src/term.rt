@@ -4,8 +4,8 @@ use sqlite_items::Items;
 
 /// A type that every text knows.
 ///
-/// The base of `string` and of `System.ValueType` is `object`; that of each type below them is `System.ValueType`
-/// (ECMA-335, I.8.2.2).
+/// The base of `string` and of `System.ValueType` is `object`, and that of each type below them is
+/// `System.ValueType` (ECMA-335, I.8.2.2).
 #[derive(Clone, Copy, Debug, PartialEq, Eq, Hash)]
 pub enum Builtin {
     Object,

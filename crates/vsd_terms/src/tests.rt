@@ -1,5 +1,5 @@
 use super::*;
-use crate::{Builtin, Names, NamesError, Terms, levels, nodes};
+use indexmap::IndexSet;
 use std::alloc::{AllocError, Global};
 use std::test::Fail;
 
@@ -56,5 +56,49 @@ fn numbers_names_up_to_the_limit(rt: HostRuntime) -> Result<(), Fail> {
     assert!(rt; names.number(b"more") == Err(NamesError::Full));
     assert_eq!(rt; names.find(b"more"), None);
     assert!(rt; names.name(2047) == 2047u16.to_le_bytes().as_slice());
+    Ok(())
+}
+
+// `name<!0, name<System.ValueType>>`.
+fn open_pair(alloc: Global, name: u16) -> Result<Term, AllocError> {
+    let mut args = Terms::new(alloc);
+    args.push(Term::Param(0))?;
+    args.push(wrapped(alloc, name, Term::Builtin(Builtin::ValueType))?)?;
+    Ok(Term::Named { name, args })
+}
+
+fn one(alloc: Global, term: Term) -> Result<Terms, AllocError> {
+    let mut terms = Terms::new(alloc);
+    terms.push(term)?;
+    Ok(terms)
+}
+
+#[test]
+fn puts_arguments_in(rt: HostRuntime) -> Result<(), Fail> {
+    let open = open_pair(rt.alloc(), 7)?;
+    let args = one(rt.alloc(), Term::Builtin(Builtin::Int8))?;
+    let place = Term::Param(0);
+    assert!(rt; parameters(&open) as usize <= args.len());
+    assert!(rt; parameters(&place) as usize <= args.len());
+    let closed = subst(rt.alloc(), &open, &args)?;
+    assert!(rt; parameters(&closed) == 0);
+    assert!(rt; is_instance(&closed, &open, &args));
+    assert!(rt; same_under(&open, &args, &open, &args));
+    assert!(rt; !same_under(&open, &args, &place, &args));
+    Ok(())
+}
+
+#[test]
+fn prints_arguments_in_brackets(rt: HostRuntime) -> Result<(), Fail> {
+    let mut names = Names::new(rt.alloc());
+    let pair = names.number(b"Pair`2")?;
+    let args = one(rt.alloc(), Term::Builtin(Builtin::Int8))?;
+    let open = open_pair(rt.alloc(), pair)?;
+    assert!(rt; parameters(&open) as usize <= args.len());
+    let closed = subst(rt.alloc(), &open, &args)?;
+    assert!(rt; parameters(&closed) == 0);
+    assert!(rt; names_needed(&closed) as usize <= names.len());
+    let text = print(rt.alloc(), &closed, &names)?;
+    assert!(rt; text.as_slice() == b"Pair`2<int8,Pair`2<System.ValueType>>".as_slice());
     Ok(())
 }
