@@ -1,0 +1,9 @@
+pub mod Windows
+pub mod Points
+pub mod NameSteps
+pub mod Stills
+pub mod Steps
+pub mod NewSeats
+pub mod Opening
+pub mod Splits
+pub mod Laws

@@ -1,0 +1,14 @@
+pub mod World
+pub mod Sizes
+pub mod Layout
+pub mod Lists
+pub mod Zones
+pub mod Seats
+pub mod Names
+pub mod Rows
+pub mod Casts
+pub mod Rule
+pub mod Moves
+pub mod Told
+pub mod Evidence
+pub mod Opening

@@ -1,0 +1,9 @@
+use crate::sizes::Sizes;
+use crate::world::World;
+
+/// What a table is told once, when it is laid out. All of its seats know it.
+#[derive(Drop)]
+pub struct Key {
+    pub sizes: Sizes,
+    pub world: World,
+}

@@ -1,0 +1,4 @@
+pub mod Powers
+pub mod Allowed
+pub mod Seats
+pub mod Laid

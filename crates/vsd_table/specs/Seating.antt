@@ -1,0 +1,32 @@
+-- What a clause reads of the table and of a seat.
+use Rattle.std.specs.Prelude.{◌≡◌, ℕ, List}
+use mathlib.Core.Option.{some}
+use lib.ListN.{get_elem?}
+use Rattle.vsd_rule.specs.declared.key.Key.{Key}
+use Rattle.vsd_rule.specs.declared.view.View.{View}
+use Rattle.vsd_rule.specs.Moves.{caller_view}
+use Rattle.vsd_table.specs.declared.shared.Shared.{Shared}
+use Rattle.vsd_table.specs.declared.seated.Seated.{Seated}
+
+-- what the table was told when it was laid out
+abbrev pub key_of : Shared → Key
+key_of table = table.table.shared.key
+
+-- what the caller knows
+abbrev pub view_of : Seated → View
+view_of seated = seated.seat.me.0
+
+-- the seat is one of this table's
+pub record Belongs (table : Shared) (seated : Seated) : Type 0 where
+  pub table_id : seated.seat.table_id ≡ table.table.shared.table_id
+  pub key : (view_of seated).key ≡ key_of table
+
+-- a step of the seat, after which its view is this one
+pub record Becomes (old new : Seated) (after : View) : Type 0 where
+  pub table_id : new.seat.table_id ≡ old.seat.table_id
+  pub seat : new.seat.id ≡ old.seat.id
+  pub view : view_of new ≡ after
+
+-- The seats are those of the callers of this table, in order of their numbers, and none has made a step
+abbrev pub AreSeatsOf : Shared → List Seated → Type 0
+AreSeatsOf table seats = (caller : ℕ) (s : Seated) → get_elem? seats caller ≡ some s → Belongs table s × (view_of s ≡ caller_view (key_of table) caller)

@@ -1,0 +1,18 @@
+//! The shared table of the runtime: words that change in single atomic steps, under the rule of
+//! `vsd_rule`, and the seats through which callers make these steps. Each step is one call, which
+//! says exactly what it makes of its seat's view, and takes no memory.
+#![tactic(auto)]
+
+mod handles;
+mod opening;
+mod places;
+mod plays;
+mod seated;
+mod shared;
+#[cfg(test)]
+mod tests;
+
+pub use opening::layout;
+pub use seated::Seated;
+pub use shared::Shared;
+pub use vsd_rule::{Doing, Resolver, Sizes};
