@@ -1,0 +1,4 @@
+pub mod Binding
+pub mod OwnRows
+pub mod Owned
+pub mod Types
