@@ -1,0 +1,6 @@
+pub mod Lexeme
+pub mod Reserved
+pub mod FirstForm
+pub mod Names
+pub mod Places
+pub mod Finding

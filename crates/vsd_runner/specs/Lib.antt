@@ -1,0 +1,4 @@
+pub mod Command
+pub mod Refusals
+pub mod Answers
+pub mod Outcomes

@@ -1,0 +1,109 @@
+//! The top call.
+ghost use Rattle.std.specs.Prelude.{◌≡◌, ◌⊎◌, ℕ, ◌≤◌, List, Some, length};
+ghost use Rattle.std.specs.Io.KnownBytes.{append_known};
+ghost use Rattle.vsd_outside.specs.Faults.{Rose};
+ghost use Rattle.vsd_runner.specs.Command.{spellings, IsCommand, words_line};
+ghost use Rattle.vsd_runner.specs.Outcomes.{text_read, Defines, EndsAs, Headline, Refuses, CutShort, Outcome};
+
+use crate::answers::answer_to;
+use crate::command::is_command;
+use crate::endings::Ended;
+use crate::statuses::{Refusal, Status};
+use std::alloc::Global;
+use vsd_outside::{Failed, ReadError, Sink, Source, read_up_to, write_whole};
+
+/// How many bytes are read at most: one more than a text may have.
+const READ_LIMIT: usize = 4_194_305;
+
+/// Reads the words, then a text from the source to its end or to 4,194,305 bytes, and writes what the
+/// text answers, or the line of its first refusal. Nothing is written before that is known. Words that
+/// are no command are answered with `refused words`, and the source isn't read then.
+pub fn run<S: Source, K: Sink>(
+    alloc: Global,
+    words: &[String],
+    source: &mut S,
+    sink: &mut K,
+) -> Ended
+    // What each status says. `Done` is the headline: the sink took exactly the answers of the text.
+    ensures done { result.status ≡ Status.Done
+        → Headline (spellings words.now) (S.left source.old) (S.left source.new)
+        (K.taken sink.old) (K.taken sink.new) }
+    ensures words { result.status ≡ Status.Words → (¬ IsCommand (spellings words.now))
+        × (K.taken sink.new ≡ append_known (K.taken sink.old) words_line) }
+    ensures refused { (refusal : Refusal) → result.status ≡ Status.Refused refusal
+        → Refuses (spellings words.now) (S.left source.old) (S.left source.new)
+        (K.taken sink.old) (K.taken sink.new) refusal }
+    ensures read_fault { result.status ≡ Status.ReadFault → IsCommand (spellings words.now)
+        × Rose (S.faults source.old) (S.faults source.new) × (sink.new ≡ sink.old) }
+    ensures write_fault { result.status ≡ Status.WriteFault
+        → Rose (K.faults sink.old) (K.faults sink.new)
+        × CutShort (spellings words.now) (S.left source.old) (S.left source.new)
+        (K.taken sink.old) (K.taken sink.new) }
+    ensures memory { result.status ≡ Status.Memory
+        → IsCommand (spellings words.now) × (sink.new ≡ sink.old) }
+
+    // Words that are no command end as such or with a write fault, and nothing is read.
+    ensures bad_words { ¬ IsCommand (spellings words.now)
+        → ((result.status ≡ Status.Words) ⊎ (result.status ≡ Status.WriteFault))
+        × (source.new ≡ source.old) }
+
+    // What the words and the text define comes, unless a fault or want of memory came in its place.
+    ensures as_defined { (text : List ℕ) (status : Status) (bytes : List ℕ)
+        → text_read (S.left source.old) ≡ Some text
+        → Defines (spellings words.now) text status bytes → EndsAs status result.status }
+    ensures complete { (text : List ℕ) (status : Status) (bytes : List ℕ)
+        → text_read (S.left source.old) ≡ Some text
+        → Defines (spellings words.now) text status bytes
+        → ¬ Rose (S.faults source.old) (S.faults source.new)
+        → ¬ Rose (K.faults sink.old) (K.faults sink.new)
+        → ((result.status ≡ status)
+        × (K.taken sink.new ≡ append_known (K.taken sink.old) bytes))
+        ⊎ (result.status ≡ Status.Memory) }
+
+    // Counts never fall, and a sink that surely has room for what is defined counts no fault.
+    ensures reads_never_fall { S.faults source.old ≤ S.faults source.new }
+    ensures writes_never_fall { K.faults sink.old ≤ K.faults sink.new }
+    ensures sure { (text : List ℕ) (status : Status) (bytes : List ℕ)
+        → text_read (S.left source.old) ≡ Some text
+        → Defines (spellings words.now) text status bytes
+        → length bytes ≤ K.room sink.old → K.faults sink.new ≡ K.faults sink.old }
+{
+    Ended {
+        status: status_of(alloc, words, source, sink),
+    }
+}
+
+/// How the run ends, in one relation.
+fn status_of<S: Source, K: Sink>(
+    alloc: Global,
+    words: &[String],
+    source: &mut S,
+    sink: &mut K,
+) -> Status
+    ensures outcome { Outcome (spellings words.now)
+        (S.left source.old) (S.left source.new) (K.taken sink.old) (K.taken sink.new)
+        (source.new ≡ source.old) (λ size. size ≤ K.room sink.old → K.faults sink.new ≡ K.faults sink.old)
+        (Rose (S.faults source.old) (S.faults source.new)) (Rose (K.faults sink.old) (K.faults sink.new))
+        (sink.new ≡ sink.old) result }
+    ensures reads_never_fall { S.faults source.old ≤ S.faults source.new }
+    ensures writes_never_fall { K.faults sink.old ≤ K.faults sink.new }
+{
+    if !is_command(words) {
+        return match write_whole(sink, b"refused words\n") {
+            Ok(()) => Status::Words,
+            Err(Failed) => Status::WriteFault,
+        };
+    }
+    let text = match read_up_to(alloc, source, READ_LIMIT) {
+        Ok(text) => text,
+        Err(ReadError::Failed) => return Status::ReadFault,
+        Err(ReadError::Memory) => return Status::Memory,
+    };
+    let Ok(answer) = answer_to(alloc, &text) else {
+        return Status::Memory;
+    };
+    match write_whole(sink, &answer.bytes) {
+        Ok(()) => answer.status,
+        Err(Failed) => Status::WriteFault,
+    }
+}
