@@ -1,0 +1,13 @@
+pub mod Outcomes
+pub mod Bounds
+pub mod Soundness
+pub mod Keeping
+pub mod Completeness
+pub mod Consequences
+pub mod Places
+pub mod Ends
+pub mod Steps
+pub mod Numbers
+pub mod ListSteps
+pub mod TurnSteps
+pub mod Deciding

@@ -1,0 +1,7 @@
+pub mod Words
+pub mod Input
+pub mod Place
+pub mod Grammar
+pub mod Laws
+pub mod Productions
+pub mod Loops

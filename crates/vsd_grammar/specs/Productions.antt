@@ -1,0 +1,137 @@
+-- Productions that both readers share, and what a function that reads one ensures.
+use Rattle.std.specs.Prelude.{◌≡◌, ℕ, ◌+◌, nat_lt, ◌==◌, Bool, true, false, if◌then◌else◌, List, [], ◌∷◌, ◌++◌, length, position, Option, Some, None, Result, Ok, Err}
+use Rattle.std.specs.Str.{bytes_eq}
+use Rattle.vsd_grammar.specs.declared.peek.Peek.{Peek}
+use Rattle.vsd_grammar.specs.declared.peek.Peek.TheVariants as peek
+use Rattle.vsd_grammar.specs.declared.peek.Turn.{Turn}
+use Rattle.vsd_grammar.specs.declared.peek.Turn.TheVariants.{Stop, Pass, Refuse}
+use Rattle.vsd_grammar.specs.declared.refusal.Cause.{Cause}
+use Rattle.vsd_grammar.specs.declared.refusal.Cause.TheVariants.{Unexpected, TooMany, TooDeep}
+use Rattle.vsd_grammar.specs.declared.refusal.Counted.TheVariants as limit
+use Rattle.vsd_grammar.specs.declared.refusal.Stop.{Stop as Stopped}
+use Rattle.vsd_grammar.specs.declared.refusal.Stop.TheVariants as stop
+use Rattle.vsd_grammar.specs.Input.{Input, State, Hand, same_peek}
+use Rattle.vsd_grammar.specs.Grammar.{G, ret, fail, hand, pass, count, bind, until, Outcome}
+
+-- What a function that reads ensures: the outcome of the reading, unless memory fails. `view` gives the value
+-- of which the grammar speaks.
+abbrev pub ReadsBy : {A B : Type 0} → (B → A) → Outcome A → Result B Stopped → Input → Type 0
+ReadsBy view outcome (Ok x) new = outcome ≡ Ok (view x, new)
+ReadsBy view outcome (Err stop.Memory) new = Unit {0}
+ReadsBy view outcome (Err (stop.Refused r)) new = outcome ≡ Err r
+
+abbrev pub Reads : {A : Type 0} → Outcome A → Result A Stopped → Input → Type 0
+Reads outcome (Ok x) new = outcome ≡ Ok (x, new)
+Reads outcome (Err stop.Memory) new = Unit {0}
+Reads outcome (Err (stop.Refused r)) new = outcome ≡ Err r
+
+-- refuses the token at hand
+unfoldable pub refuse : (A : Type 0) → Cause → G A
+refuse A cause = bind Hand A hand (λ h. fail A h.place cause)
+
+-- a token of this class
+abbrev pub expected : Bool → ℕ → G (Unit {0})
+expected true place = pass
+expected false place = fail (Unit {0}) place Unexpected
+
+unfoldable pub expect : Peek → G (Unit {0})
+expect wanted = bind Hand (Unit {0}) hand (λ h. expected (same_peek wanted h.peek) h.place)
+
+-- passes over a token of this class, if it is at hand, and tells whether it was
+abbrev pub eaten : Bool → G Bool
+eaten true = bind (Unit {0}) Bool pass (λ _. ret Bool true)
+eaten false = ret Bool false
+
+unfoldable pub eat : Peek → G Bool
+eat wanted = bind Hand Bool hand (λ h. eaten (same_peek wanted h.peek))
+
+-- ---- counts
+
+-- the most nodes of a written term
+abbrev pub most_nodes : ℕ
+most_nodes = 64
+
+abbrev pub with_nodes : State → ℕ → State
+with_nodes s n = record s { nodes = n }
+
+-- a term begins
+unfoldable pub no_nodes : G (Unit {0})
+no_nodes = count (Unit {0}) (λ s. Ok (tt, with_nodes s 0))
+
+-- one more node of the term in hand, which the token at hand names
+unfoldable pub node : G (Unit {0})
+node = count (Unit {0}) (λ s. if nat_lt s.nodes most_nodes then Ok (tt, with_nodes s (s.nodes + 1)) else Err TooDeep)
+
+-- the most names that have a number
+abbrev pub most_names : ℕ
+most_names = 2048
+
+-- the number that a name has, or a new one
+abbrev pub number_by : List ℕ → State → Option ℕ → Result (ℕ × State) Cause
+number_by name s (Some n) = Ok (n, s)
+number_by name s None = if nat_lt (length s.names) most_names then Ok (length s.names, record s { names = s.names ++ name ∷ [] })
+    else Err (TooMany limit.Names)
+
+unfoldable pub number : List ℕ → G ℕ
+number name = count ℕ (λ s. number_by name s (position (bytes_eq name) s.names))
+
+-- the value, or a refusal that stands at this index
+abbrev pub checked : (A : Type 0) → ℕ → Result A Cause → G A
+checked A place (Ok a) = ret A a
+checked A place (Err cause) = fail A place cause
+
+-- ---- scans
+
+-- a step of a scan at the token at hand
+abbrev pub scan_step : (S : Type 0) → ℕ → Turn S → G S
+scan_step S place (Pass s) = bind (Unit {0}) S pass (λ _. ret S s)
+scan_step S place (Refuse cause) = fail S place cause
+scan_step S place Stop = fail S place Unexpected
+
+abbrev pub is_stop : {S : Type 0} → Turn S → Bool
+is_stop Stop = true
+is_stop _ = false
+
+-- tokens one by one, each passed over as its turn says, up to one at which it says to stop
+unfoldable pub scan : (S : Type 0) → (Peek → S → Turn S) → S → G S
+scan S turn = until S (λ q s. is_stop (turn q s)) (λ s. bind Hand S hand (λ h. scan_step S h.place (turn h.peek s)))
+
+-- ---- names
+
+-- the most bytes of a name
+abbrev pub most_bytes : ℕ
+most_bytes = 255
+
+-- A Word that doesn't begin with a point, or a Quoted token. A word of the grammar is one too, where it is none at its place.
+abbrev pub is_name : Peek → Bool
+is_name (peek.Word k) = true
+is_name peek.Quoted = true
+is_name _ = false
+
+abbrev pub name_by : Bool → List ℕ → Result (List ℕ) Cause
+name_by false bytes = Err Unexpected
+name_by true bytes = if length bytes == 0 then Err Unexpected
+    else (if nat_lt most_bytes (length bytes) then Err (TooMany limit.NameBytes) else Ok bytes)
+
+-- the bytes of the name at hand, which isn't passed over
+unfoldable pub spelled_name : G (List ℕ)
+spelled_name = bind Hand (List ℕ) hand (λ h. checked (List ℕ) h.place (name_by (is_name h.peek) h.bytes))
+
+-- the value, after the token at hand
+abbrev pub then_pass : (A : Type 0) → A → G A
+then_pass A a = bind (Unit {0}) A pass (λ _. ret A a)
+
+unfoldable pub name : G (List ℕ)
+name = bind (List ℕ) (List ℕ) spelled_name (λ bytes. then_pass (List ℕ) bytes)
+
+-- the number of a name
+unfoldable pub numbered_name : G ℕ
+numbered_name = bind (List ℕ) ℕ spelled_name (λ bytes. bind ℕ ℕ (number bytes) (λ n. then_pass ℕ n))
+
+-- { Word }, where no Word begins with a point
+abbrev pub plain_turn : Peek → Unit {0} → Turn (Unit {0})
+plain_turn (peek.Word k) s = Pass s
+plain_turn _ s = Stop
+
+unfoldable pub plain_words : G (Unit {0})
+plain_words = scan (Unit {0}) plain_turn tt

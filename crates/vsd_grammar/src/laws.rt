@@ -1,0 +1,63 @@
+// The laws that hold of every grammar. Each is a function that does nothing and ensures its law.
+ghost use Rattle.vsd_grammar.specs.Grammar.{G, Decides};
+ghost use Rattle.vsd_grammar.specs.Productions.{name, numbered_name, plain_words};
+ghost use Rattle.vsd_grammar.specs.Words.{WordsHaveKeys};
+ghost use Rattle.vsd_grammar.specs.Laws.{IsSound, IsComplete, KeepsReading, KeepsRefusal, GoesForward, IsDead, IsUnambiguous};
+ghost use Rattle.vsd_grammar.specs.declared.peek.Peek.{Peek};
+ghost use Rattle.std.specs.Prelude.{Bool};
+
+/// Each word of the grammar has its own key.
+pub fn words_have_keys()
+    ensures { WordsHaveKeys }
+{}
+
+/// Names and plain words are read in one way, whatever follows them.
+pub fn names_are_decided()
+    ensures names { (F : Peek → Bool) → Decides _ name F }
+    ensures numbers { (F : Peek → Bool) → Decides _ numbered_name F }
+    ensures words { (F : Peek → Bool) → Decides _ plain_words F }
+{}
+
+/// A grammar of which the laws speak: its production, and the tokens that may stand after it.
+pub trait Production {
+    ghost Value: { Type 0 };
+
+    ghost production: { G Value };
+
+    ghost follow: { Peek → Bool };
+}
+
+/// What is read is allowed.
+pub fn sound<P: Production>()
+    ensures { IsSound P.Value P.production }
+{}
+
+/// What is allowed is read, if an optional part and what may follow it begin differently.
+pub fn complete<P: Production>()
+    ensures { Decides P.Value P.production P.follow → IsComplete P.Value P.production P.follow }
+{}
+
+/// A reading goes forward within its list.
+pub fn goes_forward<P: Production>()
+    ensures { GoesForward P.Value P.production }
+{}
+
+/// A reading looks at no token beyond the one where it ends.
+pub fn keeps_reading<P: Production>()
+    ensures { KeepsReading P.Value P.production }
+{}
+
+/// A refusal looks at no token beyond the one that decided it.
+pub fn keeps_refusal<P: Production>()
+    ensures { KeepsRefusal P.Value P.production }
+{}
+
+/// After a refusal nothing goes on that is allowed.
+pub fn dead<P: Production>()
+    ensures { Decides P.Value P.production P.follow → IsDead P.Value P.production P.follow }
+{}
+
+/// At most one value is allowed.
+pub fn unambiguous<P: Production>()
+    ensures { Decides P.Value P.production P.follow → IsUnambiguous P.Value P.production P.follow }
+{}

@@ -1,0 +1,81 @@
+// Names, which declarations and scripts read alike.
+ghost use Rattle.std.specs.Prelude.{◌≡◌, ◌≢◌};
+ghost use Rattle.vsd_grammar.specs.Grammar.{run};
+ghost use Rattle.vsd_grammar.specs.Productions.{Reads, ReadsBy, is_name, spelled_name, name, numbered_name, plain_turn, plain_words};
+
+use crate::cursor::Cursor;
+use crate::loops::scan;
+use crate::peek::{Peek, Turn};
+use crate::refusal::{Cause, Counted, Stop};
+
+/// The most bytes of a name.
+const MOST_BYTES: usize = 255;
+
+/// Whether a name may stand at a token of this class.
+pub fn is_name(peek: Peek) -> bool
+    ensures { result ≡ is_name peek }
+{
+    match peek {
+        Peek::Word(_) | Peek::Quoted => true,
+        _ => false,
+    }
+}
+
+/// The bytes of the name at hand, which is not passed over.
+#[tactic(auto, unfolding(crate::specs::Productions::spelled_name))]
+pub fn spelled_name<'a>(cursor: &Cursor<'a>) -> Result<&'a [u8], Stop>
+    ensures reads { ReadsBy (λ b. b.now) (run _ spelled_name cursor.now) result cursor.now }
+    ensures sure { result ≢ Err Stop.Memory }
+{
+    let bytes = cursor.bytes();
+    if !is_name(cursor.peek()) {
+        return Err(cursor.refuse(Cause::Unexpected));
+    }
+    if bytes.len() == 0 {
+        return Err(cursor.refuse(Cause::Unexpected));
+    }
+    if bytes.len() > MOST_BYTES {
+        return Err(cursor.refuse(Cause::TooMany(Counted::NameBytes)));
+    }
+    Ok(bytes)
+}
+
+/// A name, which lasts as long as the text.
+#[tactic(auto, unfolding(crate::specs::Productions::name))]
+pub fn name<'a>(cursor: &mut Cursor<'a>) -> Result<&'a [u8], Stop>
+    ensures reads { ReadsBy (λ b. b.now) (run _ name cursor.old) result cursor.new }
+    ensures sure { result ≢ Err Stop.Memory }
+{
+    let bytes = spelled_name(cursor)?;
+    cursor.pass()?;
+    Ok(bytes)
+}
+
+/// The number of a name.
+#[tactic(auto, unfolding(crate::specs::Productions::numbered_name))]
+pub fn numbered_name(cursor: &mut Cursor<'_>) -> Result<u16, Stop>
+    ensures { Reads (run _ numbered_name cursor.old) result cursor.new }
+{
+    let bytes = spelled_name(cursor)?;
+    let number = cursor.number(bytes)?;
+    cursor.pass()?;
+    Ok(number)
+}
+
+/// Words that do not begin with a point, as many as there are.
+#[tactic(auto, unfolding(crate::specs::Productions::plain_words))]
+pub fn plain_words(cursor: &mut Cursor<'_>) -> Result<(), Stop>
+    ensures reads { Reads (run _ plain_words cursor.old) result cursor.new }
+    ensures sure { result ≢ Err Stop.Memory }
+{
+    scan(cursor, (), plain_turn)
+}
+
+fn plain_turn(peek: Peek, state: ()) -> Turn<()>
+    ensures { result ≡ plain_turn peek state }
+{
+    match peek {
+        Peek::Word(_) => Turn::Pass(state),
+        _ => Turn::Stop,
+    }
+}
