@@ -9,13 +9,13 @@ use vsd_rows::Hand;
 use vsd_table::{Resolver, Seated, Shared, Sizes, layout};
 use vsd_words::Handle;
 
-/// A world of one type, without methods.
+/// A world of one type and one slot, which it lacks.
 struct OneType;
 
 impl Resolver for OneType {
     ghost types = { λ _. 1 };
 
-    ghost tokens = { λ _. 0 };
+    ghost tokens = { λ _. 1 };
 
     ghost sel = { λ _. [] };
 
@@ -37,7 +37,7 @@ impl Resolver for OneType {
 const ONE_CALLER: Sizes = Sizes {
     callers: 1,
     sites: 0,
-    tokens: 0,
+    tokens: 1,
     rows: 0,
     buckets: 1,
     hosts: 0,
