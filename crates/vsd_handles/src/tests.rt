@@ -9,7 +9,7 @@ use vsd_rows::Hand;
 use vsd_table::{Resolver, Seated, Shared, Sizes, layout};
 use vsd_words::Handle;
 
-/// A world of one type and one slot, which it lacks.
+/// A world of one type and one token, without methods.
 struct OneType;
 
 impl Resolver for OneType {
