@@ -1,0 +1,2 @@
+pub mod MethodKeys
+pub mod RepeatLemmas
