@@ -1,2 +1,3 @@
+pub mod IndexLemmas
 pub mod MethodKeys
 pub mod RepeatLemmas

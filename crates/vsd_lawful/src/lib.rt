@@ -1,6 +1,17 @@
-//! What declarations have to meet by themselves.
+//! What declarations have to meet before one can ask which lies above which: names that stand once, types that are there
+//! with as many arguments as they take, and no signs on the parameters of classes.
+//!
+//! Each condition is a relation in `specs/`, and each function answers the least line at which one declaration shows it.
 #![tactic(auto)]
 
-mod methods;
 
-pub use methods::repeated_method;
+mod methods;
+mod scope;
+
+
+
+
+pub use scope::{Scope, index};
+
+
+

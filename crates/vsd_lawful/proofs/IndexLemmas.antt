@@ -1,0 +1,49 @@
+-- The place of a name's declaration, and what stands there.
+use Rattle.std.proofs.Common.{◌≡◌, ℕ, ◌+◌, ◌<◌, Bool, true, false, cond, eqb, List, [], ◌∷◌, length, Option, Some, None, refl, sym, ap, ◌∙◌, arith, add-one}
+use Rattle.std.specs.List.{slice_get}
+use Rattle.vsd_ast.specs.declared.declarations.Decl.{Decl}
+use Rattle.vsd_ast.specs.Lookup.{declared, place_of}
+use Rattle.vsd_lawful.specs.Index.{place_from}
+
+-- the declaration of the name stands at this place, where the places of the list begin with the first
+pub record IsPlaceOf (ds : List Decl) (first name place : ℕ) : Type 0 where
+  pub offset : ℕ
+  pub is : place ≡ first + offset
+  pub within : offset < length ds
+  pub there : slice_get ds offset ≡ declared ds name
+  pub lookup : place_of ds name ≡ offset
+
+pub place_from-Some : (first : ℕ) (ds : List Decl) (name place : ℕ) → place_from first ds name ≡ Some place → IsPlaceOf ds first name place
+unfolding declared place_of
+place_from-Some first [] name place found = absurd cc
+place_from-Some first (x ∷ xs) name place found = by (eqb x.name name) refl (place_from-Some (first + 1) xs name place)
+  where
+  by : (b : Bool) → eqb x.name name ≡ b → (place_from (first + 1) xs name ≡ Some place → IsPlaceOf xs (first + 1) name place) → IsPlaceOf (x ∷ xs) first name place
+  by true is later =
+      let at : Some first ≡ Some place = sym (ap (λ b. cond b (Some first) (place_from (first + 1) xs name)) is) ∙ found in
+      let same : first ≡ place = cc in
+      record {
+        offset = 0;
+        is = omega arith;
+        within = omega arith;
+        there = sym (ap (λ b. cond b (Some x) (declared xs name)) is);
+        lookup = ap (λ b. cond b 0 (place_of xs name + 1)) is;
+      }
+  by false is later =
+      let r = later (sym (ap (λ b. cond b (Some first) (place_from (first + 1) xs name)) is) ∙ found) in
+      record {
+        offset = r.offset + 1;
+        is = omega (arith, r.is);
+        within = omega (arith, r.within);
+        there = rw add-one (r.there ∙ sym (ap (λ b. cond b (Some x) (declared xs name)) is));
+        lookup = ap (λ b. cond b 0 (place_of xs name + 1)) is ∙ ap (λ n. n + 1) r.lookup;
+      }
+
+pub place_from-None : (first : ℕ) (ds : List Decl) (name : ℕ) → place_from first ds name ≡ None → declared ds name ≡ None
+unfolding declared
+place_from-None first [] name missing = refl
+place_from-None first (x ∷ xs) name missing = by (eqb x.name name) missing (place_from-None (first + 1) xs name)
+  where
+  by : (b : Bool) → cond b (Some first) (place_from (first + 1) xs name) ≡ None → (place_from (first + 1) xs name ≡ None → declared xs name ≡ None) → cond b (Some x) (declared xs name) ≡ None
+  by true e later = absurd cc
+  by false e later = later e
