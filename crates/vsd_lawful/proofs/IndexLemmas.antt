@@ -1,5 +1,6 @@
 -- The place of a name's declaration, and what stands there.
-use Rattle.std.proofs.Common.{◌≡◌, ℕ, ◌+◌, ◌<◌, Bool, true, false, cond, eqb, List, [], ◌∷◌, length, Option, Some, None, refl, sym, ap, ◌∙◌, arith, add-one}
+use Rattle.std.proofs.Common.{◌≡◌, ℕ, ◌+◌, ◌<◌, ◌≤◌, zero, suc, Bool, true, false, cond, eqb, List, [], ◌∷◌, length, Option, Some, None, refl, sym, ap, ◌∙◌, arith, add-one, eq-eqb}
+use Rattle.std.proofs.lemmas.Bool.{eqb-true}
 use Rattle.std.specs.List.{slice_get}
 use Rattle.vsd_ast.specs.declared.declarations.Decl.{Decl}
 use Rattle.vsd_ast.specs.Lookup.{declared, place_of}
@@ -10,7 +11,10 @@ pub record IsPlaceOf (ds : List Decl) (first name place : ℕ) : Type 0 where
   pub offset : ℕ
   pub is : place ≡ first + offset
   pub within : offset < length ds
-  pub there : slice_get ds offset ≡ declared ds name
+  pub element : Decl
+  pub there : slice_get ds offset ≡ Some element
+  pub named : element.name ≡ name
+  pub first_one : declared ds name ≡ Some element
   pub lookup : place_of ds name ≡ offset
 
 pub place_from-Some : (first : ℕ) (ds : List Decl) (name place : ℕ) → place_from first ds name ≡ Some place → IsPlaceOf ds first name place
@@ -26,7 +30,10 @@ place_from-Some first (x ∷ xs) name place found = by (eqb x.name name) refl (p
         offset = 0;
         is = omega arith;
         within = omega arith;
-        there = sym (ap (λ b. cond b (Some x) (declared xs name)) is);
+        element = x;
+        there = refl;
+        named = eqb-true x.name name is;
+        first_one = ap (λ b. cond b (Some x) (declared xs name)) is;
         lookup = ap (λ b. cond b 0 (place_of xs name + 1)) is;
       }
   by false is later =
@@ -35,7 +42,10 @@ place_from-Some first (x ∷ xs) name place found = by (eqb x.name name) refl (p
         offset = r.offset + 1;
         is = omega (arith, r.is);
         within = omega (arith, r.within);
-        there = rw add-one (r.there ∙ sym (ap (λ b. cond b (Some x) (declared xs name)) is));
+        element = r.element;
+        there = let e = r.there in rw add-one e;
+        named = r.named;
+        first_one = ap (λ b. cond b (Some x) (declared xs name)) is ∙ r.first_one;
         lookup = ap (λ b. cond b 0 (place_of xs name + 1)) is ∙ ap (λ n. n + 1) r.lookup;
       }
 
@@ -45,5 +55,32 @@ place_from-None first [] name missing = refl
 place_from-None first (x ∷ xs) name missing = by (eqb x.name name) missing (place_from-None (first + 1) xs name)
   where
   by : (b : Bool) → cond b (Some first) (place_from (first + 1) xs name) ≡ None → (place_from (first + 1) xs name ≡ None → declared xs name ≡ None) → cond b (Some x) (declared xs name) ≡ None
+  by true e later = absurd cc
+  by false e later = later e
+
+-- no declaration of the name stands before the place found
+pub place_from-least : (first : ℕ) (ds : List Decl) (name place k : ℕ) (y : Decl) → place_from first ds name ≡ Some place → slice_get ds k ≡ Some y → y.name ≡ name → place ≤ first + k
+place_from-least first [] name place k y found here named = absurd cc
+place_from-least first (x ∷ xs) name place zero y found here named =
+    let same : x ≡ y = cc in
+    let at : Some first ≡ Some place = sym (ap (λ b. cond b (Some first) (place_from (first + 1) xs name)) (eq-eqb x.name name (ap (λ (z : Decl). z.name) same ∙ named))) ∙ found in
+    let e : first ≡ place = cc in
+    omega arith
+place_from-least first (x ∷ xs) name place (suc k) y found here named = by (eqb x.name name) found (λ later. place_from-least (first + 1) xs name place k y later here named)
+  where
+  by : (b : Bool) → cond b (Some first) (place_from (first + 1) xs name) ≡ Some place → (place_from (first + 1) xs name ≡ Some place → place ≤ (first + 1) + k) → place ≤ first + suc k
+  by true e later = let same : first ≡ place = cc in omega arith
+  by false e later = omega (arith, later e)
+
+-- where the table has no place, no declaration has the name
+pub place_from-absent : (first : ℕ) (ds : List Decl) (name k : ℕ) (y : Decl) → place_from first ds name ≡ None → slice_get ds k ≡ Some y → y.name ≡ name → ⊥
+place_from-absent first [] name k y missing here named = absurd cc
+place_from-absent first (x ∷ xs) name zero y missing here named =
+    let same : x ≡ y = cc in
+    let at : Some first ≡ None = sym (ap (λ b. cond b (Some first) (place_from (first + 1) xs name)) (eq-eqb x.name name (ap (λ (z : Decl). z.name) same ∙ named))) ∙ missing in
+    absurd cc
+place_from-absent first (x ∷ xs) name (suc k) y missing here named = by (eqb x.name name) missing (λ later. place_from-absent (first + 1) xs name k y later here named)
+  where
+  by : (b : Bool) → cond b (Some first) (place_from (first + 1) xs name) ≡ None → (place_from (first + 1) xs name ≡ None → ⊥) → ⊥
   by true e later = absurd cc
   by false e later = later e

@@ -1,3 +1,6 @@
 pub mod Index
 pub mod Keys
+pub mod Tests
 pub mod Twice
+pub mod Types
+pub mod Variant

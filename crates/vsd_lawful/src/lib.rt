@@ -4,14 +4,12 @@
 //! Each condition is a relation in `specs/`, and each function answers the least line at which one declaration shows it.
 #![tactic(auto)]
 
-
+mod duplicates;
+mod faults;
 mod methods;
 mod scope;
+mod variant;
 
-
-
-
+pub use duplicates::twice;
 pub use scope::{Scope, index};
-
-
-
+pub use variant::variant_class;
