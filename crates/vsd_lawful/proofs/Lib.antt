@@ -1,3 +1,4 @@
 pub mod IndexLemmas
 pub mod MethodKeys
 pub mod RepeatLemmas
+pub mod TypeLemmas

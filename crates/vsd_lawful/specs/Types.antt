@@ -1,5 +1,5 @@
 -- The types that a declaration names are declared, and have as many arguments as they take (II.7.3, II.9.4).
-use Rattle.std.specs.Prelude.{◌≡◌, ℕ, ◌+◌, List, [], ◌∷◌, ◌++◌, ◌⊎◌, length, Option, Some, None, Contains}
+use Rattle.std.specs.Prelude.{◌≡◌, ℕ, ◌+◌, List, [], ◌∷◌, ◌++◌, ◌⊎◌, length, Option, Some, None, Any}
 use Rattle.std.specs.List.{flat_map}
 use Rattle.std.specs.Option.{IsSomeAnd, option_to_list}
 use Rattle.vsd_terms.specs.declared.term.Term.{Term}
@@ -40,21 +40,26 @@ implementer_terms (Named owner name signature) = owner ∷ signature_terms signa
 abbrev pub override_terms : Override → List Term
 override_terms o = o.owner ∷ long_form_terms o.signature ++ implementer_terms o.body
 
--- one of the terms has a named type with this property
-pub record Names (P : ℕ × ℕ → Type 0) (ts : List Term) : Type 0 where
-  pub term : Term
-  pub among : Contains ts term
-  pub type : ℕ × ℕ
-  pub inside : Contains (named_in term) type
-  pub shows : P type
+module _ (P : ℕ × ℕ → Type 0) where
+  -- one of the named types in the terms has this property
+  abbrev pub Names : List Term → Type 0
+  Names ts = Any P (flat_map named_in ts)
 
--- the line of a base or of an interface, of a method, or of an override, that names a type with this property
-abbrev pub NamesAt : (ℕ × ℕ → Type 0) → Decl → ℕ → Type 0
-NamesAt P x line =
-    IsSomeAnd x.base (λ (b : Located). Names P (b.term ∷ []) × (line ≡ b.line)) ⊎
-    (AtSome x.interfaces (λ _ (i : Located) n. Names P (i.term ∷ []) × (n ≡ i.line)) line ⊎
-    (AtSome x.methods (λ _ (m : Method) n. Names P (signature_terms m.signature) × (n ≡ m.line)) line ⊎
-    AtSome x.overrides (λ _ (o : Override) n. Names P (override_terms o) × (n ≡ o.line)) line))
+  -- the line of a base, of an interface, of a method or of an override that names a type with this property
+  abbrev pub BaseNames : Option Located → ℕ → Type 0
+  BaseNames base line = IsSomeAnd base (λ (b : Located). Names (b.term ∷ []) × (line ≡ b.line))
+
+  abbrev pub InterfaceNames : ℕ → Located → ℕ → Type 0
+  InterfaceNames place i line = Names (i.term ∷ []) × (line ≡ i.line)
+
+  abbrev pub MethodNames : ℕ → Method → ℕ → Type 0
+  MethodNames place m line = Names (signature_terms m.signature) × (line ≡ m.line)
+
+  abbrev pub OverrideNames : ℕ → Override → ℕ → Type 0
+  OverrideNames place o line = Names (override_terms o) × (line ≡ o.line)
+
+  abbrev pub NamesAt : Decl → ℕ → Type 0
+  NamesAt x line = BaseNames x.base line ⊎ (AtSome x.interfaces InterfaceNames line ⊎ (AtSome x.methods MethodNames line ⊎ AtSome x.overrides OverrideNames line))
 
 module _ (ds : List Decl) where
   -- no declaration has the name

@@ -1,7 +1,7 @@
 //! Types that terms name and that are not there, or take another number of arguments.
 ghost use Rattle.std.specs.Prelude.{◌≡◌, ◌||◌, map};
 ghost use Rattle.vsd_lawful.specs.Tests.{any_named, any_true, is_unknown, is_miscounted};
-ghost use Rattle.vsd_lawful.specs.Types.{signature_terms, override_terms};
+ghost use Rattle.vsd_lawful.specs.Types.{signature_terms, long_form_terms, implementer_terms, override_terms};
 
 use crate::Scope;
 use vsd_ast::{Implementer, Override, Signature};
@@ -15,6 +15,11 @@ pub struct Faults {
     /// One is declared and takes another number of arguments.
     pub arity: bool,
 }
+
+const NONE: Faults = Faults {
+    unknown: false,
+    arity: false,
+};
 
 fn either(a: Faults, b: Faults) -> Faults
     ensures unknown { result.unknown ≡ (a.unknown || b.unknown) }
@@ -43,16 +48,13 @@ fn of_type(scope: &Scope, name: u16, count: usize) -> Faults
 }
 
 #[cycle(faults)]
-fn of_term(scope: &Scope, t: &Term) -> Faults
+pub(crate) fn of_term(scope: &Scope, t: &Term) -> Faults
     ensures unknown { result.unknown ≡ any_named (is_unknown scope.now.list.now) t.now }
     ensures arity { result.arity ≡ any_named (is_miscounted scope.now.list.now) t.now }
 {
     match t {
         Term::Named { name, args } => either(of_type(scope, *name, args.len()), of_terms(scope, args)),
-        _ => Faults {
-            unknown: false,
-            arity: false,
-        },
+        _ => NONE,
     }
 }
 
@@ -62,12 +64,48 @@ fn of_terms(scope: &Scope, ts: &Terms) -> Faults
     ensures arity { result.arity ≡ any_true (map (any_named (is_miscounted scope.now.list.now)) ts.now) }
 {
     let ts = ts.as_slice();
-    let mut faults = Faults {
-        unknown: false,
-        arity: false,
-    };
+    let mut faults = NONE;
     for i in 0..ts.len() {
         faults = either(faults, of_term(scope, &ts[i]));
     }
     faults
+}
+
+pub(crate) fn of_signature(scope: &Scope, s: &Signature) -> Faults
+    ensures unknown { result.unknown ≡ any_true (map (any_named (is_unknown scope.now.list.now)) (signature_terms s.now)) }
+    ensures arity { result.arity ≡ any_true (map (any_named (is_miscounted scope.now.list.now)) (signature_terms s.now)) }
+{
+    match &s.result {
+        Some(t) => either(of_term(scope, t), of_terms(scope, &s.arguments)),
+        None => of_terms(scope, &s.arguments),
+    }
+}
+
+fn of_long_form(scope: &Scope, s: &Option<Signature>) -> Faults
+    ensures unknown { result.unknown ≡ any_true (map (any_named (is_unknown scope.now.list.now)) (long_form_terms s.now)) }
+    ensures arity { result.arity ≡ any_true (map (any_named (is_miscounted scope.now.list.now)) (long_form_terms s.now)) }
+{
+    match s {
+        Some(s) => of_signature(scope, s),
+        None => NONE,
+    }
+}
+
+fn of_implementer(scope: &Scope, body: &Implementer) -> Faults
+    ensures unknown { result.unknown ≡ any_true (map (any_named (is_unknown scope.now.list.now)) (implementer_terms body.now)) }
+    ensures arity { result.arity ≡ any_true (map (any_named (is_miscounted scope.now.list.now)) (implementer_terms body.now)) }
+{
+    match body {
+        Implementer::Own(_) => NONE,
+        Implementer::Named { owner, name: _, signature } => either(of_term(scope, owner), of_signature(scope, signature)),
+    }
+}
+
+#[tactic(auto, using(crate::proofs::TypeLemmas::any_named_append))]
+pub(crate) fn of_override(scope: &Scope, o: &Override) -> Faults
+    ensures unknown { result.unknown ≡ any_true (map (any_named (is_unknown scope.now.list.now)) (override_terms o.now)) }
+    ensures arity { result.arity ≡ any_true (map (any_named (is_miscounted scope.now.list.now)) (override_terms o.now)) }
+{
+    let names = either(of_long_form(scope, &o.signature), of_implementer(scope, &o.body));
+    either(of_term(scope, &o.owner), names)
 }

@@ -7,9 +7,11 @@
 mod duplicates;
 mod faults;
 mod methods;
+mod named;
 mod scope;
 mod variant;
 
 pub use duplicates::twice;
+pub use named::{Lines, types};
 pub use scope::{Scope, index};
 pub use variant::variant_class;
