@@ -19,7 +19,7 @@ mark_at-same ms at m within = get_or-set_same ms at m Unseen within
 pub mark_at-other : (ms : List Mark) (at i : ℕ) (m : Mark) → i ≢ at → mark_at (set ms at m) i ≡ mark_at ms i
 mark_at-other ms at i m differ = get_or-set_other ms at i m Unseen differ
 
-same_or_not : (i j : ℕ) → (i ≡ j) ⊎ (i ≢ j)
+pub same_or_not : (i j : ℕ) → (i ≡ j) ⊎ (i ≢ j)
 same_or_not i j = elim (cases_order i j) [
   inl e ↦ inl e
   | inr other ↦ inr (λ e. elim other [ inl lt ↦ omega arith | inr gt ↦ omega arith ])

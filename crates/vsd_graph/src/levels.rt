@@ -1,7 +1,7 @@
 //! The level of each place: one more than the greatest of those that one step leads to.
-ghost use Rattle.std.specs.Prelude.{◌≡◌, ◌<◌, ◌≤◌, ◌^◌, length, slice_index_or, IfOk, IfSome, IfNone, MatchOption};
+ghost use Rattle.std.specs.Prelude.{◌≡◌, ◌<◌, ◌≤◌, ◌^◌, length, map, IfOk, MatchOption};
 ghost use Rattle.vsd_graph.specs.Graph.{IsClosed, IsCyclic, AreLevels};
-ghost use Rattle.vsd_graph.specs.Marks.{AreSound, LeadsTo, LeadsOnTo, Settles, mark_at};
+ghost use Rattle.vsd_graph.specs.Marks.{AreSound, LeadsTo, LeadsOnTo, Settles, level_in, mark_at};
 
 use sqlite_items::Items;
 use std::alloc::{AllocError, Global};
@@ -49,4 +49,39 @@ fn visit(graph: &[Items<u16>], at: usize, marks: &mut Vec<Mark>) -> Option<u16>
     let level = most + 1;
     marks[at] = Mark::Level(level);
     Some(level)
+}
+
+fn level_of(mark: Mark) -> u16
+    ensures { result ≡ level_in mark }
+{
+    match mark {
+        Mark::Level(level) => level,
+        _ => 0,
+    }
+}
+
+fn collect(alloc: Global, marks: &[Mark]) -> Result<Vec<u16>, AllocError>
+    ensures { IfOk result (λ levels. levels.items ≡ map level_in marks.now) }
+{
+    let mut levels = Vec::with_capacity(alloc, marks.len())?;
+    for mark in marks {
+        levels.push(level_of(*mark))?;
+    }
+    Ok(levels)
+}
+
+/// The level of each place, one more than the greatest of those that one step leads to; none where a walk comes back.
+pub fn place_levels(alloc: Global, graph: &[Items<u16>]) -> Result<Option<Vec<u16>>, AllocError>
+    requires closed { IsClosed graph.now }
+    requires small { length graph.now < 2 ^ 16 }
+    ensures { IfOk result
+        (λ found. MatchOption found (IsCyclic graph.now) (λ levels. AreLevels graph.now levels.items)) }
+{
+    let mut marks = vec![in alloc; Mark::Unseen; graph.len()]?;
+    for at in 0..graph.len() {
+        let Some(_) = settle(graph, at, &mut marks) else {
+            return Ok(None);
+        };
+    }
+    Ok(Some(collect(alloc, &marks)?))
 }

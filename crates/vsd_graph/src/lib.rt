@@ -2,5 +2,9 @@
 #![tactic(auto)]
 
 mod levels;
+mod reaching;
 
 
+
+pub use levels::place_levels;
+pub use reaching::reaches_itself;
