@@ -1,0 +1,9 @@
+//! Which declarations lie above which: kinds of bases and interfaces, cycles, and the depth of each declaration.
+//!
+//! Each condition is a relation in `specs/`, and each function answers the least line at which it shows.
+#![tactic(auto)]
+
+mod kinds;
+
+
+pub use kinds::{bad_base, bad_interface};
