@@ -8,9 +8,12 @@ use Rattle.vsd_ast.specs.declared.declarations.Located.{Located}
 use Rattle.vsd_graph.specs.Graph.{ReachesItself}
 use Rattle.vsd_lawful.specs.Index.{place_in}
 
+abbrev pub interface_terms : List Located → List Term
+interface_terms interfaces = map (λ (i : Located). i.term) interfaces
+
 -- what one follows upward from a declaration: the base of a class, the interfaces that an interface requires
 abbrev pub followed : Decl → List Term
-followed x = cond x.is_interface (map (λ (i : Located). i.term) x.interfaces) (base_terms x.base)
+followed x = cond x.is_interface (interface_terms x.interfaces) (base_terms x.base)
 
 module _ (ds : List Decl) where
   abbrev pub place_named : Head → Option ℕ

@@ -28,6 +28,9 @@ module _ (ds : List Decl) where
   IsNoInterface (parameter place) = Unit {0}
   IsNoInterface (built_in b) = Unit {0}
 
-  -- an interface that is named and is none, at the line of its term
+  -- the line of an interface that is named and is none
+  abbrev pub IsBadInterface : ℕ → Located → ℕ → Type 0
+  IsBadInterface place i line = IsNoInterface (head_of i.term) × (line ≡ i.line)
+
   abbrev pub ShowsBadInterface : Decl → ℕ → Type 0
-  ShowsBadInterface x line = AtSome x.interfaces (λ _ (i : Located) n. IsNoInterface (head_of i.term) × (n ≡ i.line)) line
+  ShowsBadInterface x line = AtSome x.interfaces IsBadInterface line

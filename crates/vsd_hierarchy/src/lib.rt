@@ -4,6 +4,7 @@
 #![tactic(auto)]
 
 mod kinds;
+mod upward;
 
 
 pub use kinds::{bad_base, bad_interface};

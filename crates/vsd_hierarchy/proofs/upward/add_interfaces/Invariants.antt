@@ -1,0 +1,8 @@
+-- What is there so far is what the interfaces so far give.
+use Rattle.std.proofs.Common.{◌≡◌, ◌++◌, map, take}
+use Rattle.vsd_ast.specs.Hierarchy.{above}
+use Rattle.vsd_hierarchy.specs.Cycles.{followed, places_of, interface_terms}
+use Rattle.vsd_hierarchy.proofs.upward.add_interfaces.Given as goal
+
+abbrev pub invariant-loop-interface : goal.invariant-loop-interface
+invariant-loop-interface l = l.places ≡ l.fn.places ++ places_of l.scope.list.now (interface_terms (take l.interface-index l.interfaces))
