@@ -1,1 +1,3 @@
-
+pub mod CycleLemmas
+pub mod DepthLemmas
+pub mod EdgeLemmas

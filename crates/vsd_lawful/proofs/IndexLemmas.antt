@@ -84,3 +84,12 @@ place_from-absent first (x ∷ xs) name (suc k) y missing here named = by (eqb x
   by : (b : Bool) → cond b (Some first) (place_from (first + 1) xs name) ≡ None → (place_from (first + 1) xs name ≡ None → ⊥) → ⊥
   by true e later = absurd cc
   by false e later = later e
+
+pub place_of-None : (first : ℕ) (ds : List Decl) (name : ℕ) → place_from first ds name ≡ None → place_of ds name ≡ length ds
+unfolding place_of
+place_of-None first [] name missing = refl
+place_of-None first (x ∷ xs) name missing = by (eqb x.name name) missing (place_of-None (first + 1) xs name)
+  where
+  by : (b : Bool) → cond b (Some first) (place_from (first + 1) xs name) ≡ None → (place_from (first + 1) xs name ≡ None → place_of xs name ≡ length xs) → cond b 0 (place_of xs name + 1) ≡ suc (length xs)
+  by true e later = absurd cc
+  by false e later = let r = later e in omega arith

@@ -1,5 +1,5 @@
 -- How the least number is found part by part: of nothing, of a test, of two properties, of a list element by element.
-use Rattle.std.proofs.Common.{◌≡◌, ℕ, ◌+◌, ◌≤◌, Bool, true, false, IsTrue, ◌↔◌, cond, ltb, List, length, Option, Some, None, refl, sym, subst, ◌⊎◌, inl, inr, arith}
+use Rattle.std.proofs.Common.{◌≡◌, ℕ, ◌+◌, ◌≤◌, Bool, true, false, IsTrue, ◌↔◌, cond, ltb, List, length, Option, Some, None, IsSomeAnd, refl, sym, subst, ◌⊎◌, inl, inr, arith}
 use Rattle.std.specs.List.{slice_get}
 use Rattle.std.proofs.lemmas.Bool.{false≢true, ltb-true, ltb-false, cases_lt}
 use Rattle.std.proofs.lemmas.Option.{slice_get_within}
@@ -37,6 +37,12 @@ IsLeast-earlier P Q a b answer is p q = subst (IsLeast (λ n. P n ⊎ Q n)) (sym
     either (Some x) (Some y) p q = after x y (ltb y x) refl p.has q.has p.least q.least
 
 module _ {A : Type 0} (xs : List A) (Q : ℕ → A → ℕ → Type 0) where
+  -- what holds at the last of the elements so far
+  at_end : (i : ℕ) (x : A) (n : ℕ) → slice_get xs i ≡ Some x → (w : AtSome xs (Until (i + 1) Q) n) → w.place ≡ i → Q i x n
+  at_end i x n here w e =
+      let same : w.element ≡ x = let there = w.there in cc in
+      subst (λ (k : ℕ). Q k x n) e (subst (λ (y : A). Q w.place y n) same w.shows.1)
+
   -- before the first element
   pub IsLeast-start : IsLeast (AtSome xs (Until 0 Q)) None
   IsLeast-start = record { has = tt; least = λ n e. omega (arith, e.shows.0) }
@@ -51,14 +57,9 @@ module _ {A : Type 0} (xs : List A) (Q : ℕ → A → ℕ → Type 0) where
       ])
       (λ n w. elim (cases_lt w.place i) [
         | inl lt ↦ inl (record { place = w.place; element = w.element; there = w.there; shows = (lt, w.shows.1) })
-        | inr ge ↦ inr (at_end n w (omega (arith, w.shows.0)))
+        | inr ge ↦ inr (at_end i x n here w (omega (arith, w.shows.0)))
       ])
       (IsLeast-earlier (AtSome xs (Until i Q)) (Q i x) a b answer is before now)
-    where
-      at_end : (n : ℕ) (w : AtSome xs (Until (i + 1) Q) n) → w.place ≡ i → Q i x n
-      at_end n w e =
-          let same : w.element ≡ x = let there = w.there in cc in
-          subst (λ (k : ℕ). Q k x n) e (subst (λ (y : A). Q w.place y n) same w.shows.1)
 
   -- behind the last element
   pub IsLeast-end : (i : ℕ) (a : Option ℕ) → length xs ≤ i → IsLeast (AtSome xs (Until i Q)) a → IsLeast (AtSome xs Q) a
@@ -66,3 +67,14 @@ module _ {A : Type 0} (xs : List A) (Q : ℕ → A → ℕ → Type 0) where
       IsLeast-same (AtSome xs (Until i Q)) (AtSome xs Q) a
       (λ n w. record { place = w.place; element = w.element; there = w.there; shows = w.shows.1 })
       (λ n w. record { place = w.place; element = w.element; there = w.there; shows = (omega (arith, slice_get_within xs w.place w.element w.there), w.shows) })
+
+  -- one element more, which could show no line that is sooner than the one found
+  pub IsLeast-past : (i : ℕ) (x : A) (a : Option ℕ) (line : ℕ) → slice_get xs i ≡ Some x → ((n : ℕ) → Q i x n → n ≡ line) → IsSomeAnd a (λ found. found ≤ line) → IsLeast (AtSome xs (Until i Q)) a → IsLeast (AtSome xs (Until (i + 1) Q)) a
+  IsLeast-past i x None line here at_line sooner before = absurd sooner
+  IsLeast-past i x (Some found) line here at_line sooner before = record {
+    has = (let w = before.has in record { place = w.place; element = w.element; there = w.there; shows = (omega (arith, w.shows.0), w.shows.1) });
+    least = λ n w. elim (cases_lt w.place i) [
+      inl lt ↦ before.least n (record { place = w.place; element = w.element; there = w.there; shows = (lt, w.shows.1) })
+      | inr ge ↦ omega (arith, at_line n (at_end i x n here w (omega (arith, w.shows.0))))
+    ];
+  }
