@@ -1,3 +1,4 @@
 pub mod CycleLemmas
 pub mod DepthLemmas
 pub mod EdgeLemmas
+pub mod HierarchyLemmas

@@ -32,7 +32,7 @@ or_false true = refl
 or_false false = refl
 
 module _ (test : ℕ × ℕ → Bool) where
-  any_named-Named : (name : ℕ) (args : List Term) → any_named test (Named name args) ≡ (test (name, length args) || any_true (map (any_named test) args))
+  pub any_named-Named : (name : ℕ) (args : List Term) → any_named test (Named name args) ≡ (test (name, length args) || any_true (map (any_named test) args))
   any_named-Named name args = ap (any_named test) (sym (rolls-Named name args)) ∙ fold-roll-Term Bool (any_step test) (layer.Named name args) ∙ ap (λ n. test (name, n) || any_true (map (any_named test) args)) (length-map args (any_named test))
 
   named_in-Named : (name : ℕ) (args : List Term) → named_in (Named name args) ≡ (name, length args) ∷ flat_map (λ inner. inner) (map named_in args)
