@@ -16,12 +16,16 @@ use Rattle.vsd_lawful.specs.Tests.{any_named, any_true, is_unknown, is_miscounte
 use Rattle.vsd_lawful.specs.Types.{Names, IsUnknown, IsMiscounted}
 use Rattle.vsd_lawful.proofs.TypeLemmas.{any_named-Named, one_named-Decides, is_unknown-Decides, is_miscounted-Decides}
 
+pub both_parts : (a b : Bool) → (a && b) ≡ true → (a ≡ true) × (b ≡ true)
+both_parts true b e = (refl, e)
+both_parts false b e = absurd (false≢true e)
+
 -- a term is lawful where no type in it is unknown or miscounted
 module _ (ds : List Decl) where
   abbrev LawfulWhere : Term → Type 0
   LawfulWhere t = any_named (is_unknown ds) t ≡ false → any_named (is_miscounted ds) t ≡ false → is_lawful ds t ≡ true
 
-  is_lawful-Named : (name : ℕ) (args : List Term) → is_lawful ds (Named name args) ≡ (takes (declared ds name) (length args) && all_true (map (is_lawful ds) args))
+  pub is_lawful-Named : (name : ℕ) (args : List Term) → is_lawful ds (Named name args) ≡ (takes (declared ds name) (length args) && all_true (map (is_lawful ds) args))
   is_lawful-Named name args = ap (is_lawful ds) (sym (rolls-Named name args)) ∙ fold-roll-Term Bool (lawful_step ds) (layer.Named name args) ∙ ap (λ n. takes (declared ds name) n && all_true (map (is_lawful ds) args)) (length-map args (is_lawful ds))
 
   takes_where : (o : Option Decl) (n : ℕ) → is_none o ≡ false → miscounts o n ≡ false → takes o n ≡ true

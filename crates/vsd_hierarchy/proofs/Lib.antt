@@ -2,3 +2,4 @@ pub mod CycleLemmas
 pub mod DepthLemmas
 pub mod EdgeLemmas
 pub mod HierarchyLemmas
+pub mod PlacedLemmas
