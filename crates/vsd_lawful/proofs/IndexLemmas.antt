@@ -1,10 +1,10 @@
 -- The place of a name's declaration, and what stands there.
-use Rattle.std.proofs.Common.{◌≡◌, ℕ, ◌+◌, ◌<◌, ◌≤◌, zero, suc, Bool, true, false, cond, eqb, List, [], ◌∷◌, length, Option, Some, None, refl, sym, ap, ◌∙◌, arith, add-one, eq-eqb}
-use Rattle.std.proofs.lemmas.Bool.{eqb-true}
+use Rattle.std.proofs.Common.{◌≡◌, ℕ, ◌+◌, ◌<◌, ◌≤◌, zero, suc, Bool, true, false, cond, eqb, List, [], ◌∷◌, length, Option, Some, None, unwrap_or, ltb, refl, sym, ap, ◌∙◌, arith, add-one, eq-eqb}
+use Rattle.std.proofs.lemmas.Bool.{eqb-true, lt-ltb, le-ltb}
 use Rattle.std.specs.List.{slice_get}
 use Rattle.vsd_ast.specs.declared.declarations.Decl.{Decl}
 use Rattle.vsd_ast.specs.Lookup.{declared, place_of}
-use Rattle.vsd_lawful.specs.Index.{place_from}
+use Rattle.vsd_lawful.specs.Index.{place_from, place_below, place_in}
 
 -- the declaration of the name stands at this place, where the places of the list begin with the first
 pub record IsPlaceOf (ds : List Decl) (first name place : ℕ) : Type 0 where
@@ -93,3 +93,23 @@ place_of-None first (x ∷ xs) name missing = by (eqb x.name name) missing (plac
   by : (b : Bool) → cond b (Some first) (place_from (first + 1) xs name) ≡ None → (place_from (first + 1) xs name ≡ None → place_of xs name ≡ length xs) → cond b 0 (place_of xs name + 1) ≡ suc (length xs)
   by true e later = absurd cc
   by false e later = let r = later e in omega arith
+
+pub not_below : (n : ℕ) → ltb n n ≡ false
+not_below n = le-ltb n n (omega arith)
+
+-- what the table tells is the place of the declaration, or the count of declarations
+pub place_below-table : (ds : List Decl) (name place : ℕ) → place ≡ unwrap_or (place_in ds name) (length ds) → place_below place (length ds) ≡ place_in ds name
+place_below-table ds name place is = ap (λ p. place_below p (length ds)) is ∙ by (place_in ds name) refl
+  where
+  by : (o : Option ℕ) → place_in ds name ≡ o → place_below (unwrap_or o (length ds)) (length ds) ≡ o
+  by None missing = ap (λ b. cond b (Some (length ds)) None) (not_below (length ds))
+  by (Some p) found =
+      let at = place_from-Some 0 ds name p found in
+      ap (λ b. cond b (Some p) None) (lt-ltb p (length ds) (omega (arith, at.is, at.within)))
+
+pub table_place_of : (ds : List Decl) (name : ℕ) → unwrap_or (place_in ds name) (length ds) ≡ place_of ds name
+table_place_of ds name = by (place_in ds name) refl
+  where
+  by : (o : Option ℕ) → place_in ds name ≡ o → unwrap_or o (length ds) ≡ place_of ds name
+  by None missing = sym (place_of-None 0 ds name missing)
+  by (Some p) found = let at = place_from-Some 0 ds name p found in omega (arith, at.is, at.lookup)

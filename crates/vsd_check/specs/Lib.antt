@@ -1,0 +1,4 @@
+pub mod Checked
+pub mod Earliest
+pub mod Refusals
+pub mod Value

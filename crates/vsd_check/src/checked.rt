@@ -1,0 +1,68 @@
+//! Declarations that are lawful.
+ghost use Rattle.std.specs.Prelude.{◌≡◌, ◌<◌, length, slice_index_or};
+ghost use Rattle.vsd_ast.specs.Hierarchy.{IsHierarchy};
+ghost use Rattle.vsd_ast.specs.Lookup.{place_of};
+ghost use Rattle.vsd_ast.specs.WellFormed.{AreWellFormed};
+ghost use Rattle.vsd_check.specs.Checked.{decls_of, depths_of};
+
+use sqlite_items::Items;
+use std::marker::Model;
+use vsd_ast::Decls;
+
+/// Lawful declarations, with the depth of each: one more than the greatest of its base and its interfaces.
+#[derive(Debug, Drop)]
+pub struct Checked {
+    pub(crate) decls: Decls,
+    pub(crate) places: Items<u16>,
+    pub(crate) depths: Items<u16>,
+}
+
+impl Model for Checked {
+    ghost use Rattle.std.specs.Coded.{codes};
+    ghost use Rattle.vsd_ast.specs.Hierarchy.{IsHierarchy};
+    ghost use Rattle.vsd_ast.specs.WellFormed.{AreWellFormed};
+    ghost use Rattle.vsd_check.specs.Value.{Value as Told};
+    ghost use Rattle.vsd_lawful.specs.Index.{IsIndex};
+    ghost use Rattle.vsd_terms.specs.contracts.term.Term as term;
+
+    ghost Value = { Told };
+
+    ghost coded = { Prim.hlevel (codes, term.the_row.coded) };
+
+    ghost view = { λ c. record { decls = c.decls; depths = c.depths } };
+
+    ghost invariant = { λ c. AreWellFormed c.decls × IsHierarchy c.decls.list c.depths × IsIndex c.decls.list c.places };
+}
+
+impl Checked {
+    /// The declarations. Takes no memory.
+    pub fn decls(&self) -> &Decls
+        ensures decls { result.now ≡ decls_of self.now }
+        ensures well_formed { AreWellFormed (decls_of self.now) }
+        ensures hierarchy { IsHierarchy (decls_of self.now).list (depths_of self.now) }
+    {
+        &self.decls
+    }
+
+    /// The place of the declaration with this name among the declarations. Takes no memory.
+    pub fn declaration(&self, name: u16) -> u16
+        requires { place_of (decls_of self.now).list name < length (decls_of self.now).list }
+        ensures place { result ≡ place_of (decls_of self.now).list name }
+        ensures within { result < length (decls_of self.now).list }
+        ensures well_formed { AreWellFormed (decls_of self.now) }
+        ensures hierarchy { IsHierarchy (decls_of self.now).list (depths_of self.now) }
+    {
+        self.places.as_slice()[name as usize]
+    }
+
+    /// The depth of the declaration at this place: one more than the greatest of its base and its interfaces, where a
+    /// built-in type has 0. Takes no memory.
+    pub fn depth(&self, decl: u16) -> u16
+        requires { decl < length (decls_of self.now).list }
+        ensures depth { result ≡ slice_index_or (depths_of self.now) decl 0 }
+        ensures well_formed { AreWellFormed (decls_of self.now) }
+        ensures hierarchy { IsHierarchy (decls_of self.now).list (depths_of self.now) }
+    {
+        self.depths.as_slice()[decl as usize]
+    }
+}

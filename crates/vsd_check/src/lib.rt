@@ -1,0 +1,10 @@
+//! Which declarations are lawful, and what lawful ones tell: the place of each name's declaration, and depths.
+#![tactic(auto)]
+
+mod checked;
+mod earliest;
+
+mod refusal;
+
+pub use checked::Checked;
+pub use refusal::{Cause, CheckError, Shown};
