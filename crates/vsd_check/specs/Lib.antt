@@ -1,4 +1,5 @@
 pub mod Checked
+pub mod Conditions
 pub mod Earliest
 pub mod Refusals
 pub mod Value

@@ -3,8 +3,10 @@
 
 mod checked;
 mod earliest;
+mod lawful;
 
 mod refusal;
+mod shape;
 
 pub use checked::Checked;
 pub use refusal::{Cause, CheckError, Shown};
