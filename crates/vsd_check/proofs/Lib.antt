@@ -1,1 +1,2 @@
+pub mod EarliestLaws
 pub mod TableLemmas

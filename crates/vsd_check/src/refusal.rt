@@ -2,6 +2,7 @@
 ghost use Rattle.std.specs.Prelude.{◌≡◌, Some};
 ghost use Rattle.vsd_check.specs.Refusals.{refusal_of};
 
+use std::alloc::AllocError;
 use thiserror::Error;
 
 /// A condition that lawful declarations don't show, in the order in which those of one line count.
@@ -80,6 +81,17 @@ pub enum CheckError {
     /// There is no memory.
     #[error("out of memory")]
     Memory,
+}
+
+impl From<AllocError> for CheckError {
+    ghost use Rattle.std.specs.Prelude.{◌≡◌};
+    ghost use Rattle.vsd_check.specs.declared.refusal.CheckError.TheVariants.{Memory};
+
+    ghost from_gives = { λ _ e. e ≡ Memory };
+
+    fn from(_error: AllocError) -> CheckError {
+        CheckError::Memory
+    }
 }
 
 /// The refusal for what shows.

@@ -13,9 +13,9 @@ pub loop-place-preserved : goal.loop-place-preserved
 loop-place-preserved c =
     let ds = c.args.scope.now.list.now in
     let i = c.loop-place.place in
-    let x = c.loop-place-item.result in
+    let x = c.decl-item.result in
     let within : i < length ds = omega arith in
-    let there : slice_get ds i ≡ Some x = slice_get-get_or ds i x within ∙ ap Some (sym c.loop-place-item.is) in
+    let there : slice_get ds i ≡ Some x = slice_get-get_or ds i x within ∙ ap Some (sym c.decl-item.is) in
     let inv = c.loop-place.invariant in
     record {
       twice = IsLeast-next ds (ShowsTwice c.args.decls.now.names ds) i x c.loop-place.found.twice c.in_ok-twice_here.twice_here c.earlier-twice.result c.earlier-twice.ensures there inv.twice c.in_ok-twice_here.ensures;
