@@ -10,10 +10,14 @@
 
 mod given;
 mod equality_up;
+mod hierarchy;
 mod signatures;
 mod standing;
+mod upward;
 
 pub use equality_up::{all_same_up, same_up};
 pub use given::base_arguments;
+pub use hierarchy::Hierarchy;
 pub use signatures::same_signature_up;
 pub use standing::{Standing, resolve};
+pub use upward::{chain, extended, places};

@@ -1,0 +1,60 @@
+//! The declarations from one upward.
+ghost use Rattle.std.specs.Prelude.{◌≡◌, ℕ, ◌+◌, ◌<◌, ◌≤◌, All, length, slice_get, slice_index, IfOk, IfSome};
+ghost use Rattle.vsd_ast.specs.Lookup.{place_of};
+ghost use Rattle.vsd_ast.specs.declared.declarations.Decl.{Decl};
+ghost use Rattle.vsd_lift.specs.Chain.{place_above, IsChain};
+ghost use Rattle.vsd_lift.specs.Lift.{IsLadder};
+ghost use Rattle.vsd_lift.specs.Settled.{IsSettled};
+
+use crate::Hierarchy;
+use std::alloc::{AllocError, Global};
+use vsd_ast::Decl;
+use vsd_terms::Term;
+
+/// The numbers of the declarations by the numbers of their names, of which there are `names`. A name that no declaration
+/// has gets the number of declarations.
+pub fn places(alloc: Global, names: usize, decls: &[Decl]) -> Result<Vec<u16>, AllocError>
+    requires few { length decls.now ≤ 1024 }
+    requires named { All (λ (x : Decl). x.name < names) decls.now }
+    ensures count { IfOk result (λ made. length made.items ≡ names) }
+    ensures places { IfOk result (λ made.
+        (name : ℕ) → name < names → slice_index made.items name ≡ place_of decls.now name) }
+{
+    let mut made = vec![in alloc; decls.len() as u16; names]?;
+    for i in (0..decls.len()).rev() {
+        made[decls[i].name as usize] = i as u16;
+    }
+    Ok(made)
+}
+
+/// The number of the declaration that the one at `at` extends. None without `extends`, and where a built-in is extended.
+pub fn extended(h: &Hierarchy<'_>, at: usize) -> Option<u16>
+    requires settled { IsSettled h.now.decls.now h.now.places.now h.now.depths.now }
+    requires within { at < length h.now.decls.now }
+    ensures above { result ≡ place_above h.now.decls.now (slice_get h.now.decls.now at) }
+    ensures within { IfSome result (λ n. n < length h.now.decls.now) }
+    ensures lower { IfSome result (λ n. slice_index h.now.depths.now n < slice_index h.now.depths.now at) }
+{
+    let base = h.decls[at].base.as_ref()?;
+    let Term::Named { name, .. } = &base.term else {
+        return None;
+    };
+    Some(h.places[*name as usize])
+}
+
+/// The numbers of the declarations from `from` upward, each the one that the one before extends (ECMA-335, II.10.1.2).
+pub fn chain(alloc: Global, h: &Hierarchy<'_>, from: usize) -> Result<Vec<usize>, AllocError>
+    requires settled { IsSettled h.now.decls.now h.now.places.now h.now.depths.now }
+    requires within { from < length h.now.decls.now }
+    ensures chain { IfOk result (λ made. IsChain h.now.decls.now from made.items) }
+    ensures ladder { IfOk result (λ made. IsLadder h.now.decls.now made.items) }
+{
+    let mut made = Vec::new(alloc);
+    made.push(from)?;
+    let mut at = from;
+    while let Some(above) = extended(h, at) {
+        at = above as usize;
+        made.push(at)?;
+    }
+    Ok(made)
+}
