@@ -1,11 +1,12 @@
 -- The three forms of a term, and that no two of them are one.
-use Rattle.std.proofs.Common.{◌≡◌, ℕ, List, map, refl, sym, ap, ◌∙◌, inl, inr, ◌⊎◌}
+use Rattle.std.proofs.Common.{◌≡◌, ℕ, List, [], map, refl, sym, ap, ◌∙◌}
 use Rattle.vsd_terms.specs.declared.term.Builtin.{Builtin as Kind}
 use Rattle.vsd_terms.specs.declared.term.Term.{Term}
 use Rattle.vsd_terms.specs.declared.term.Term.TheOpen as layer
 use Rattle.vsd_terms.specs.declared.term.Term.TheViews.{out-Term, out-roll-Term}
 use Rattle.vsd_terms.specs.declared.term.Term.TheVariants.{Named, Param, Builtin, rolls-Named, rolls-Param, rolls-Builtin}
 use Rattle.vsd_terms.proofs.Induction.{term_induction}
+use Rattle.vsd_lift.specs.Chain.{arguments_in, arguments_of}
 
 pub data Form (t : Term) : Type 0 where
   is_named : (name : ℕ) → (args : List Term) → t ≡ Named name args → Form t
@@ -44,3 +45,12 @@ Param-place x y e = let h : layer.Param x ≡ layer.Param y = sym (out-Param x) 
 
 pub Builtin-kind : (x y : Kind) → Builtin x ≡ Builtin y → x ≡ y
 Builtin-kind x y e = let P : layer.Term-F Term → layer.Term-F Term → Type 0 = λ p q. p ≡ q in let h : P (layer.Builtin x) (layer.Builtin y) = sym (out-Builtin x) ∙ ap out-Term e ∙ out-Builtin y in cc
+
+pub arguments_of-Named : (name : ℕ) (args : List Term) → arguments_of (Named name args) ≡ args
+arguments_of-Named name args = ap arguments_in (out-Named name args)
+
+pub arguments_of-Param : (place : ℕ) → arguments_of (Param place) ≡ []
+arguments_of-Param place = ap arguments_in (out-Param place)
+
+pub arguments_of-Builtin : (b : Kind) → arguments_of (Builtin b) ≡ []
+arguments_of-Builtin b = ap arguments_in (out-Builtin b)

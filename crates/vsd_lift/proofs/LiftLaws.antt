@@ -1,7 +1,7 @@
 -- Laws of lifting: it is one substitution, that of the lifted arguments; and the lowest class's arguments are put in last.
-use Rattle.std.proofs.Common.{◌≡◌, ℕ, zero, suc, ◌+◌, ◌<◌, ◌≤◌, List, [], ◌∷◌, length, map, get_or, refl, sym, ap, ◌∙◌, arith}
+use Rattle.std.proofs.Common.{◌≡◌, ℕ, zero, suc, ◌<◌, ◌≤◌, List, [], ◌∷◌, length, map, get_or, refl, sym, ap, ◌∙◌, arith}
 use Rattle.vsd_terms.specs.declared.term.Term.{Term}
-use Rattle.vsd_terms.specs.declared.term.Term.TheVariants.{Named, Param, Builtin}
+use Rattle.vsd_terms.specs.declared.term.Term.TheVariants.{Named, Param}
 use Rattle.vsd_terms.specs.Size.{greatest}
 use Rattle.vsd_terms.specs.Substitution.{parameters_of, subst_of}
 use Rattle.vsd_terms.proofs.Induction.{term_induction}
@@ -31,11 +31,11 @@ lift-subst_of envs level =
     let env = env_at envs level in
     let lifted = map (lift envs level) env in
     term_induction (IsOneSubst envs level)
-      (λ name es fit.
-      let ts = map (λ e. e.0) es in
-      lift-Named envs (suc level) name ts ∙ ap (Named name) (all_one envs level es (omega (arith, parameters_of-Named name ts))) ∙ sym (subst_of-Named lifted name ts))
-      (λ place fit. lift-suc envs level (Param place) ∙ ap (lift envs level) (subst_of-Param env place) ∙ sym (get_or-map_within (lift envs level) env place (Param place) (Param place) (omega (arith, parameters_of-Param place))) ∙ sym (subst_of-Param lifted place))
-      (λ b fit. lift-Builtin envs (suc level) b ∙ sym (subst_of-Builtin lifted b))
+    (λ name es fit.
+    let ts = map (λ e. e.0) es in
+    lift-Named envs (suc level) name ts ∙ ap (Named name) (all_one envs level es (omega (arith, parameters_of-Named name ts))) ∙ sym (subst_of-Named lifted name ts))
+    (λ place fit. lift-suc envs level (Param place) ∙ ap (lift envs level) (subst_of-Param env place) ∙ sym (get_or-map_within (lift envs level) env place (Param place) (Param place) (omega (arith, parameters_of-Param place))) ∙ sym (subst_of-Param lifted place))
+    (λ b fit. lift-Builtin envs (suc level) b ∙ sym (subst_of-Builtin lifted b))
 
 -- from the class above the lowest, and then by what the lowest gives it
 pub lift-lowest : (env : List Term) (envs : List (List Term)) (level : ℕ) (t : Term) → lift (env ∷ envs) (suc level) t ≡ subst_of env (lift envs level t)

@@ -1,7 +1,6 @@
 -- What a lifted term is, by the form of the term.
-use Rattle.std.proofs.Common.{◌≡◌, ℕ, zero, suc, ◌+◌, ◌-◌, ◌<◌, ◌≤◌, List, [], ◌∷◌, length, map, get_or, refl, sym, ap, ◌∙◌, subst, Some, All, slice_get, arith}
-use Rattle.std.proofs.lemmas.List.{length-map, get_or_read}
-use Rattle.std.proofs.lemmas.List.Elements.{All-get_or}
+use Rattle.std.proofs.Common.{◌≡◌, ℕ, zero, suc, ◌-◌, ◌<◌, ◌≤◌, List, [], ◌∷◌, length, map, get_or, refl, sym, ap, ◌∙◌, subst, Some, slice_get, arith}
+use Rattle.std.proofs.lemmas.List.{get_or_read}
 use Rattle.std.proofs.lemmas.Option.{slice_get-map, slice_get_read, slice_get-get_or, get_or_from_slice_get}
 use Rattle.std.specs.Option.{option_map}
 use Rattle.vsd_terms.specs.declared.term.Builtin.{Builtin as Kind}
@@ -10,10 +9,10 @@ use Rattle.vsd_terms.specs.declared.term.Term.TheVariants.{Named, Param, Builtin
 use Rattle.vsd_terms.specs.Size.{greatest}
 use Rattle.vsd_terms.specs.Substitution.{parameters_of, subst_of}
 use Rattle.vsd_terms.proofs.SubstitutionLaws.{get_or-greatest}
-use Rattle.vsd_terms.proofs.SubstitutionLemmas.{subst_of-Named, subst_of-Param, subst_of-Builtin, parameters_of-Param}
+use Rattle.vsd_terms.proofs.SubstitutionLemmas.{subst_of-Named, subst_of-Param, subst_of-Builtin}
 use Rattle.vsd_ast.specs.declared.declarations.Decl.{Decl}
 use Rattle.vsd_lift.specs.Chain.{arguments_at, envs_of, given_to}
-use Rattle.vsd_lift.specs.Lift.{lift, env_at, AreEnvs, AllFit, Fits, IsResolved}
+use Rattle.vsd_lift.specs.Lift.{lift, env_at, AreEnvs, Fits, IsResolved}
 use Rattle.vsd_lift.proofs.Forms.{Form, form_of, is_named, is_param, is_builtin, Named≢Param, Named≢Builtin, Param≢Builtin}
 
 map-same : (f : Term → Term) (ts : List Term) → ((t : Term) → f t ≡ t) → map f ts ≡ ts

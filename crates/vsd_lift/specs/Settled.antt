@@ -9,5 +9,5 @@ pub record IsSettled (ds : List Decl) (places depths : List ℕ) : Type 0 where
   pub few : length ds ≤ 1024
   -- names are numbered below the length of the table
   pub each : All (IsDeclaration (length places)) ds
-  pub places : (name : ℕ) → name < length places → slice_index places name ≡ place_of ds name
+  pub numbered : (name : ℕ) → name < length places → slice_index places name ≡ place_of ds name
   pub hierarchy : IsHierarchy ds depths

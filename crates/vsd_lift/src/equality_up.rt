@@ -29,13 +29,7 @@ pub fn same_up(a: &Term, decls: &[Decl], chain: &[usize], level: usize, b: &Term
 
 /// Whether `xs` are as many as `ys`, and each is the other one, as [`same_up`] compares them.
 #[cycle(same_up)]
-pub fn all_same_up(
-    xs: &Terms,
-    decls: &[Decl],
-    chain: &[usize],
-    level: usize,
-    ys: &Terms,
-) -> bool
+pub fn all_same_up(xs: &Terms, decls: &[Decl], chain: &[usize], level: usize, ys: &Terms) -> bool
     requires ladder { IsLadder decls.now chain.now }
     requires within { level ≤ length chain.now }
     requires fit { AllFit (envs_of decls.now chain.now) level ys.now }

@@ -8,8 +8,8 @@
 //! A chain lists declarations by their numbers, from the lowest class upward. The class at level 0 is the lowest.
 #![tactic(auto)]
 
-mod given;
 mod equality_up;
+mod given;
 mod hierarchy;
 mod signatures;
 mod standing;

@@ -16,12 +16,7 @@ pub struct Standing<'a> {
 
 /// What `term` stands for, so far as parameters alone lead: a term of a lower class, that is no parameter or stands at
 /// level 0.
-pub fn resolve<'a>(
-    decls: &'a [Decl],
-    chain: &[usize],
-    level: usize,
-    term: &'a Term,
-) -> Standing<'a>
+pub fn resolve<'a>(decls: &'a [Decl], chain: &[usize], level: usize, term: &'a Term) -> Standing<'a>
     requires ladder { IsLadder decls.now chain.now }
     requires within { level ≤ length chain.now }
     requires fits { Fits (envs_of decls.now chain.now) level term.now }

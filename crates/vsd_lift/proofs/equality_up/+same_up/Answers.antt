@@ -4,9 +4,8 @@ use Rattle.std.proofs.lemmas.List.{take_more}
 use Rattle.std.proofs.Common.{eqb-true, eq-eqb}
 use Rattle.vsd_terms.proofs.SubstitutionLemmas.{same_named}
 use Rattle.vsd_terms.specs.Substitution.{parameters_of}
-use Rattle.vsd_terms.specs.declared.term.Term.{Term}
 use Rattle.vsd_terms.specs.declared.term.Term.TheVariants.{Named, Param, Builtin}
-use Rattle.vsd_terms.proofs.PlaceLemmas.{slice_get-map_at, take_more-map, greatest-drop}
+use Rattle.vsd_terms.proofs.PlaceLemmas.{take_more-map, greatest-drop}
 use Rattle.vsd_lift.specs.Chain.{envs_of}
 use Rattle.vsd_lift.specs.Lift.{lift}
 use Rattle.vsd_lift.proofs.Forms.{Builtin-kind, Named-arguments, Named-name, Param-place}

@@ -1,5 +1,5 @@
 -- The terms before this place are the inherited ones, one by one, and the parameters of the others have arguments.
-use Rattle.std.proofs.Common.{◌≡◌, ◌≤◌, length, map, take, drop}
+use Rattle.std.proofs.Common.{◌≡◌, length, map, take, drop}
 use Rattle.vsd_lift.specs.Chain.{envs_of}
 use Rattle.vsd_lift.specs.Lift.{lift, AllFit}
 use Rattle.vsd_lift.proofs.equality_up.+same_up.Given as goal

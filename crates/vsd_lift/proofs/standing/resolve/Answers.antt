@@ -1,9 +1,8 @@
-use Rattle.std.proofs.Common.{ℕ, ◌≡◌, ◌<◌, ◌≤◌, ◌-◌, ◌∙◌, suc, length, get_or, slice_get, ap, sym, arith}
+use Rattle.std.proofs.Common.{ℕ, ◌<◌, ◌-◌, ◌∙◌, length, get_or, slice_get, ap, sym, arith}
 use Rattle.std.proofs.lemmas.List.{length-map}
 use Rattle.std.proofs.lemmas.List.Elements.{All-get_or}
 use Rattle.vsd_terms.specs.Substitution.{parameters_of}
 use Rattle.vsd_terms.proofs.SubstitutionLemmas.{parameters_of-Param}
-use Rattle.vsd_ast.specs.declared.declarations.Decl.{Decl}
 use Rattle.vsd_lift.specs.Chain.{arguments_at, envs_of}
 use Rattle.vsd_lift.proofs.LiftLemmas.{argument_fits, env_at-envs_of, lift-Param}
 use Rattle.vsd_lift.proofs.standing.resolve.Goals as goal
