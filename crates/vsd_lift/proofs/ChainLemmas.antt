@@ -2,7 +2,7 @@
 use Rattle.std.proofs.Common.{◌≡◌, ℕ, zero, suc, ◌+◌, ◌-◌, ◌<◌, ◌≤◌, List, [], ◌∷◌, ◌++◌, length, map, get_or, refl, sym, ap, ◌∙◌, subst, Option, Some, None, IfSome, All, IsTrue, inl, inr, add-one, arith}
 use Rattle.std.specs.List.{slice_get}
 use Rattle.std.specs.Option.{option_map}
-use Rattle.std.proofs.lemmas.Bool.{cases_lt}
+use Rattle.std.proofs.lemmas.Bool.{cases_lt, cases_order}
 use Rattle.std.proofs.lemmas.List.{length-map, length_push}
 use Rattle.std.proofs.lemmas.List.Elements.{All-from_get_or}
 use Rattle.std.proofs.lemmas.Option.{get_or_from_slice_get, slice_get-get_or, slice_get-map, slice_get_cases, slice_get_past, slice_get_within}
@@ -148,6 +148,38 @@ module _ (ds : List Decl) (places depths : List ℕ) (from : ℕ) (chain : List 
         | inr past ↦ absurd (omega (arith, past.0, slice_get_within chain (suc level) m next))
       ]
 
+  -- the higher of two declarations of a chain is the less deep
+  pub chain-deeper : (k l n m : ℕ) → slice_get chain k ≡ Some n → slice_get chain l ≡ Some m → k < l → get_or depths m 0 < get_or depths n 0
+  chain-deeper k zero n m at_n at_m below = absurd (omega arith)
+  chain-deeper k (suc l) n m at_n at_m below =
+      elim (slice_get_cases chain l).1 [
+        | inl w ↦ (
+          let last = (chain-step l w.0 m w.2 at_m).deeper in
+          elim (cases_lt k l) [
+            | inl lt ↦ omega (arith, last, chain-deeper k l n w.0 at_n w.2 lt)
+            | inr ge ↦ (
+              let same_level : k ≡ l = omega arith in
+              let same : n ≡ w.0 = let both = sym at_n ∙ ap (slice_get chain) same_level ∙ w.2 in cc in
+              omega (arith, last, ap (λ (i : ℕ). get_or depths i 0) same)
+            )
+          ]
+        )
+        | inr past ↦ absurd (omega (arith, past.0, slice_get_within chain (suc l) m at_m))
+      ]
+
+  -- a declaration stands once in a chain
+  pub chain-distinct : (k l n : ℕ) → slice_get chain k ≡ Some n → slice_get chain l ≡ Some n → k ≡ l
+  chain-distinct k l n at_k at_l =
+      elim (cases_order k l) [
+        | inl same ↦ same
+        | inr other ↦ (
+          elim other [
+            | inl lt ↦ absurd (omega (arith, chain-deeper k l n n at_k at_l lt))
+            | inr gt ↦ absurd (omega (arith, chain-deeper l k n n at_l at_k gt))
+          ]
+        )
+      ]
+
   -- terms can be lifted along a chain
   pub chain-ladder : IsLadder ds chain
   chain-ladder = record {
@@ -223,3 +255,35 @@ IsPartial-end ds from chain at whole above = record {
             )
       ];
 }
+
+-- a declaration has one chain
+pub chain-same : (ds : List Decl) (from : ℕ) (one other : List ℕ) → IsChain ds from one → IsChain ds from other → (level : ℕ) → slice_get one level ≡ slice_get other level
+chain-same ds from one other is is' zero = is.first ∙ sym is'.first
+chain-same ds from one other is is' (suc level) =
+    let before = chain-same ds from one other is is' level in
+    elim (slice_get_cases one level).1 [
+      | inl w ↦ (
+        let here : slice_get other level ≡ Some w.0 = sym before ∙ w.2 in
+        ap (slice_get one) (sym (add-one level)) ∙ sym (is.next level w.0 w.2) ∙ is'.next level w.0 here ∙ ap (slice_get other) (add-one level)
+      )
+      | inr past ↦ (
+        let there : slice_get other level ≡ None = sym before ∙ past.1 in
+        elim (slice_get_cases other level).1 [
+          | inl w ↦ absurd (let both = sym there ∙ w.2 in cc)
+          | inr gone ↦ slice_get_past one (suc level) (omega (arith, past.0)) ∙ sym (slice_get_past other (suc level) (omega (arith, gone.0)))
+        ]
+      )
+    ]
+
+-- two lists with the same element at each place are one
+pub same_list : (xs ys : List ℕ) → ((i : ℕ) → slice_get xs i ≡ slice_get ys i) → xs ≡ ys
+same_list [] [] same = refl
+same_list [] (y ∷ ys) same = absurd (let first = same 0 in cc)
+same_list (x ∷ xs) [] same = absurd (let first = same 0 in cc)
+same_list (x ∷ xs) (y ∷ ys) same =
+    let first = same 0 in
+    let rest = same_list xs ys (λ i. same (suc i)) in
+    cc
+
+pub chain-unique : (ds : List Decl) (from : ℕ) (one other : List ℕ) → IsChain ds from one → IsChain ds from other → one ≡ other
+chain-unique ds from one other is is' = same_list one other (chain-same ds from one other is is')

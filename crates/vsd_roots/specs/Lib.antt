@@ -1,0 +1,4 @@
+pub mod Levels
+pub mod Methods
+pub mod Order
+pub mod Slots
