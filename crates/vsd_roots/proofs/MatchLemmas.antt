@@ -1,12 +1,19 @@
 -- The search for the nearest match among the methods of one name.
-use Rattle.std.proofs.Common.{◌≡◌, ℕ, ◌+◌, ◌-◌, ◌*◌, ◌<◌, ◌≤◌, List, length, get_or, refl, sym, ap, ◌∙◌, subst, Option, Some, None, IsSomeAnd, ◌⊎◌, inl, inr, arith}
+use Rattle.std.proofs.Common.{◌≡◌, ℕ, suc, All, IfSome, [], ◌∷◌, map, ◌+◌, ◌-◌, ◌*◌, ◌<◌, ◌≤◌, List, length, get_or, refl, sym, ap, ◌∙◌, subst, Option, Some, None, IsSomeAnd, ◌⊎◌, inl, inr, arith}
 use Rattle.std.specs.List.{slice_get}
 use Rattle.std.proofs.lemmas.Bool.{cases_lt, cases_order}
 use Rattle.vsd_ast.specs.declared.declarations.Decl.{Decl}
 use Rattle.vsd_ast.specs.declared.declarations.Method.{Method}
-use Rattle.vsd_lift.specs.Chain.{IsChain}
+use Rattle.vsd_ast.specs.declared.declarations.Signature.{Signature}
+use Rattle.vsd_ast.specs.WellFormed.{IsDeclaration, IsWritten, IsMethod as IsWrittenMethod}
+use Rattle.vsd_terms.specs.declared.term.Term.{Term}
+use Rattle.vsd_terms.specs.Size.{greatest}
+use Rattle.vsd_terms.specs.Substitution.{parameters_of}
+use Rattle.vsd_lift.specs.Chain.{envs_of}
+use Rattle.vsd_lift.specs.Lift.{AllFit, Fits, HasRoom}
+use Rattle.vsd_lift.proofs.PlaceLemmas.{All-at}
 use Rattle.vsd_lift.specs.Settled.{IsSettled}
-use Rattle.vsd_lift.proofs.ChainLemmas.{chain-deeper}
+use Rattle.vsd_lift.proofs.ChainLemmas.{chain-deeper, chain-room}
 use Rattle.vsd_roots.specs.Levels.{IsStart, IsUpward}
 use Rattle.vsd_roots.specs.Methods.{IsMethod, Tabulates, entry}
 use Rattle.vsd_roots.specs.Order.{IsLatest, IsLink, method_rank, rank}
@@ -81,3 +88,31 @@ module _ (ds : List Decl) (places depths chain : List ℕ) (settled : IsSettled 
   nearest_none start has =
       let matches = has.1.1 in
       start.latest.latest has.1.0 matches.other matches.is_other matches.name (start.below has.0 has.1.0 matches)
+
+-- ---- inherited signatures can be lifted
+
+greatest-written : (names parameters : ℕ) (ts : List Term) → All (IsWritten names parameters) ts → greatest (map parameters_of ts) ≤ parameters
+greatest-written names parameters [] all = omega arith
+greatest-written names parameters (t ∷ ts) all =
+    let first : IsWritten names parameters t = all 0 t (omega arith) in
+    let rest = greatest-written names parameters ts (λ k d inside. all (suc k) d (omega arith)) in
+    omega (arith, first.bound)
+
+pub record SignatureFits (envs : List (List Term)) (level : ℕ) (s : Signature) : Type 0 where
+  pub result : IfSome s.result (Fits envs level)
+  pub arguments : AllFit envs level s.arguments
+
+pub signature_fits : (ds : List Decl) (places depths chain : List ℕ) (q : Place) (level : ℕ) (other : Method) → IsSettled ds places depths → IsUpward ds chain → IsMethod ds q other → slice_get chain level ≡ Some q.decl → SignatureFits (envs_of ds chain) level other.signature
+signature_fits ds places depths chain q level other settled up is here =
+    let x = is.owner in
+    let declaration : IsDeclaration (length places) x = All-at (IsDeclaration (length places)) ds q.decl x is.declared settled.each in
+    let method : IsWrittenMethod (length places) (length x.params) other = All-at (IsWrittenMethod (length places) (length x.params)) x.methods q.method other is.listed declaration.methods in
+    let room = λ (count : ℕ) (few : count ≤ length x.params). chain-room ds places depths up.from chain settled up.within up.chained level q.decl x count here is.declared few in
+    record {
+      result = result_fits other.signature.result (length x.params) room method.signature.result;
+      arguments = room (greatest (map parameters_of other.signature.arguments)) (greatest-written (length places) (length x.params) other.signature.arguments method.signature.arguments);
+    }
+  where
+    result_fits : (o : Option Term) (parameters : ℕ) → ((count : ℕ) → count ≤ parameters → HasRoom (envs_of ds chain) level count) → IfSome o (IsWritten (length places) parameters) → IfSome o (Fits (envs_of ds chain) level)
+    result_fits None parameters room written = tt
+    result_fits (Some t) parameters room written = room (parameters_of t) written.bound

@@ -1,14 +1,17 @@
 -- Tables over methods, filled one declaration after another.
-use Rattle.std.proofs.Common.{◌≡◌, ℕ, ◌+◌, ◌*◌, ◌<◌, ◌≤◌, List, [], ◌∷◌, length, get_or, set, length-set, refl, sym, ap, ◌∙◌, subst, Some, IsSomeAnd, ◌⊎◌, inl, inr, arith, get_or-set_same, get_or-set_other}
+use Rattle.std.proofs.Common.{◌≡◌, ℕ, ◌+◌, ◌*◌, ◌<◌, ◌≤◌, List, [], ◌∷◌, ◌++◌, Option, length, get_or, set, length-set, refl, sym, ap, ◌∙◌, subst, Some, IsSomeAnd, ◌⊎◌, inl, inr, arith, get_or-set_same, get_or-set_other}
 use Rattle.std.specs.List.{slice_get}
 use Rattle.std.proofs.lemmas.Bool.{cases_lt, cases_eq}
+use Rattle.std.proofs.lemmas.List.{get_or_append_left, length_push}
+use Rattle.std.proofs.Math.Seq.{get_or-append_seam}
 use Rattle.std.proofs.lemmas.Option.{slice_get-get_or, slice_get_past, slice_get_within}
 use Rattle.vsd_ast.specs.declared.declarations.Decl.{Decl}
 use Rattle.vsd_ast.specs.declared.declarations.Method.{Method}
 use Rattle.vsd_ast.specs.WellFormed.{IsDeclaration}
 use Rattle.vsd_lift.specs.Settled.{IsSettled}
+use Rattle.vsd_lift.proofs.ChainLemmas.{slice_get-left, slice_get-seam}
 use Rattle.vsd_lift.proofs.PlaceLemmas.{All-at}
-use Rattle.vsd_roots.specs.Methods.{IsMethod, Tabulates, TabulatesRow, entry}
+use Rattle.vsd_roots.specs.Methods.{IsMethod, Tabulates, TabulatesFirst, TabulatesPart, TabulatesRow, entry}
 use Rattle.vsd_roots.specs.Order.{TabulatesBelow, rank, method_rank}
 use Rattle.vsd_roots.specs.declared.place.Place.{Place}
 
@@ -110,3 +113,64 @@ pub all_below : (ds : List Decl) (depths : List ℕ) (most depth : ℕ) → leng
 all_below ds depths most depth few long bound past i inside =
     let one = bound i (omega arith) in
     omega arith
+
+-- ---- rows and tables that grow at their ends
+
+module _ {A : Type 0} (ds : List Decl) (Relates : Place → A → Type 0) where
+  pub part-start : (decl : ℕ) (row : List A) → row ≡ [] → TabulatesPart ds Relates decl 0 row
+  part-start decl row none = record { long = ap length none; each = λ p m at below is. absurd (omega arith) }
+
+  pub part-push : (decl count : ℕ) (row more : List A) (x : A) → more ≡ row ++ x ∷ [] → ((p : Place) (m : Method) → p.decl ≡ decl → p.method ≡ count → IsMethod ds p m → Relates p x) → TabulatesPart ds Relates decl count row → TabulatesPart ds Relates decl (count + 1) more
+  part-push decl count row more x pushed here before = record {
+    long = ap length pushed ∙ length_push row x ∙ ap (λ (n : ℕ). n + 1) before.long;
+    each = λ p m at below is.
+      let P : Option A → Type 0 = λ o. IsSomeAnd o (Relates p) in
+      elim (cases_lt p.method count) [
+        | inl lt ↦ (
+          let kept : slice_get more p.method ≡ slice_get row p.method = ap (λ (l : List A). slice_get l p.method) pushed ∙ slice_get-left row (x ∷ []) p.method (omega (arith, before.long)) in
+          subst P (sym kept) (before.each p m at lt is)
+        )
+        | inr ge ↦ (
+          let end : p.method ≡ count = omega arith in
+          let last : slice_get more p.method ≡ Some x = ap (λ (l : List A). slice_get l p.method) pushed ∙ slice_get-seam row x p.method (end ∙ sym before.long) in
+          subst P (sym last) (here p m at end is)
+        )
+      ];
+  }
+
+  pub part-end : (decl count : ℕ) (row : List A) → ((p : Place) (m : Method) → p.decl ≡ decl → IsMethod ds p m → p.method < count) → TabulatesPart ds Relates decl count row → TabulatesRow ds Relates decl row
+  part-end decl count row all before = record { each = λ p m at is. before.each p m at (all p m at is) is }
+
+  pub first-start : (table : List (List A)) → table ≡ [] → TabulatesFirst ds Relates 0 table
+  first-start table none = record { rows = ap length none; each = λ p m below is. absurd (omega arith) }
+
+  pub first-push : (count : ℕ) (table more : List (List A)) (row : List A) → more ≡ table ++ row ∷ [] → TabulatesRow ds Relates count row → TabulatesFirst ds Relates count table → TabulatesFirst ds Relates (count + 1) more
+  first-push count table more row pushed here before = record {
+    rows = ap length pushed ∙ length_push table row ∙ ap (λ (n : ℕ). n + 1) before.rows;
+    each = λ p m below is.
+      let P : List A → Type 0 = λ l. IsSomeAnd (slice_get l p.method) (Relates p) in
+      let none : List A = [] in
+      elim (cases_lt p.decl count) [
+        | inl lt ↦ (
+          let kept : get_or more p.decl none ≡ get_or table p.decl none = ap (λ (l : List (List A)). get_or l p.decl none) pushed ∙ get_or_append_left table (row ∷ []) none p.decl (omega (arith, before.rows)) in
+          subst P (sym kept) (before.each p m lt is)
+        )
+        | inr ge ↦ (
+          let end : p.decl ≡ count = omega arith in
+          let last : get_or more p.decl none ≡ row = ap (λ (l : List (List A)). get_or l p.decl none) pushed ∙ ap (λ (n : ℕ). get_or (table ++ row ∷ []) n none) (end ∙ sym before.rows) ∙ get_or-append_seam table row [] none in
+          subst P (sym last) (here.each p m end is)
+        )
+      ];
+  }
+
+  pub first-end : (count : ℕ) (table : List (List A)) → count ≡ length ds → TabulatesFirst ds Relates count table → Tabulates ds Relates table
+  first-end count table all before = record {
+    rows = before.rows ∙ all;
+    each = λ p m is. before.each p m (omega (arith, slice_get_within ds p.decl is.owner is.declared)) is;
+  }
+
+-- a method of the declaration is among the declaration's methods
+pub listed_below : (ds : List Decl) (at : ℕ) (x : Decl) (count : ℕ) → slice_get ds at ≡ Some x → length x.methods ≤ count → (p : Place) (m : Method) → p.decl ≡ at → IsMethod ds p m → p.method < count
+listed_below ds at x count here few p m decl is =
+    let owners : is.owner ≡ x = let both = sym is.declared ∙ ap (slice_get ds) decl ∙ here in cc in
+    omega (arith, slice_get_within is.owner.methods p.method m is.listed, ap (λ (y : Decl). length y.methods) owners)

@@ -2,8 +2,11 @@
 #![tactic(auto)]
 
 mod links;
-mod overridden;
+mod overriding;
 mod place;
+mod rooting;
 mod rows;
 
+pub use overriding::overridden;
 pub use place::Place;
+pub use rooting::roots;

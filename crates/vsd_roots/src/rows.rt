@@ -1,6 +1,8 @@
 //! Tables with a row for each declaration.
-ghost use Rattle.std.specs.Prelude.{◌≡◌, ℕ, ◌<◌, ◌≤◌, length, slice_index, IfOk};
+ghost use Rattle.std.specs.Prelude.{◌≡◌, ℕ, ◌<◌, ◌≤◌, length, slice_index, IfOk, IsSome};
+ghost use Rattle.vsd_roots.specs.Methods.{entry};
 
+use crate::Place;
 use sqlite_items::Items;
 use std::alloc::{AllocError, Global};
 
@@ -24,4 +26,12 @@ pub(crate) fn deepest(depths: &[u16]) -> u16
         most = most.max(*depth);
     }
     most
+}
+
+/// The entry of the method at `at`.
+pub(crate) fn entry_of<T: Copy>(table: &[Items<T>], at: Place) -> T
+    requires { IsSome (entry table.now at) }
+    ensures { entry table.now at ≡ Some result }
+{
+    table[at.decl as usize].as_slice()[at.method as usize]
 }

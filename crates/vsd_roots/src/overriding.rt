@@ -1,6 +1,7 @@
 //! What each virtual method overrides.
 ghost use Rattle.std.specs.Prelude.{◌≡◌, ℕ, ◌<◌, ◌↔◌, All, length, IfOk, IsTrue, MatchOption};
 ghost use Rattle.vsd_ast.specs.declared.declarations.Method.{Method};
+ghost use Rattle.vsd_lift.specs.Chain.{IsChain};
 ghost use Rattle.vsd_lift.specs.Settled.{IsSettled};
 ghost use Rattle.vsd_roots.specs.Levels.{AreLevels, IsOnce, IsStart, IsUpward};
 ghost use Rattle.vsd_roots.specs.Methods.{IsMethod, Tabulates, TabulatesRow};
@@ -9,6 +10,7 @@ ghost use Rattle.vsd_roots.specs.Slots.{HasMatch, IsNearest, IsOverridden, Match
 
 use crate::Place;
 use crate::links::links;
+use crate::rows::entry_of;
 use sqlite_items::Items;
 use std::alloc::{AllocError, Global};
 use vsd_ast::{Access, Method};
@@ -74,7 +76,84 @@ fn nearest(
         if is_match(h, chain, levels, method, at) {
             return Some(at);
         }
-        next = links[at.decl as usize].as_slice()[at.method as usize];
+        next = entry_of(links, at);
     }
     None
+}
+
+// What the method at `place` overrides.
+fn overridden_by(
+    h: &Hierarchy<'_>,
+    chain: &[usize],
+    levels: &[usize],
+    links: &[Items<Option<Place>>],
+    place: Place,
+    method: &Method,
+) -> Option<Place>
+    requires settled { IsSettled h.now.decls.now h.now.places.now h.now.depths.now }
+    requires chained { IsChain h.now.decls.now place.decl chain.now }
+    requires levels { AreLevels (length h.now.decls.now) chain.now levels.now }
+    requires links { Tabulates h.now.decls.now (IsLink h.now.decls.now h.now.depths.now) links.now }
+    requires is { IsMethod h.now.decls.now place method.now }
+    ensures { IsOverridden h.now.decls.now place result }
+{
+    if method.newslot {
+        return None;
+    }
+    let start = entry_of(links, place);
+    nearest(h, chain, levels, links, method, start)
+}
+
+// What each method of one declaration overrides.
+fn overridden_row(
+    alloc: Global,
+    h: &Hierarchy<'_>,
+    links: &[Items<Option<Place>>],
+    at: usize,
+) -> Result<Items<Option<Place>>, AllocError>
+    requires settled { IsSettled h.now.decls.now h.now.places.now h.now.depths.now }
+    requires within { at < length h.now.decls.now }
+    requires links { Tabulates h.now.decls.now (IsLink h.now.decls.now h.now.depths.now) links.now }
+    ensures { IfOk result (TabulatesRow h.now.decls.now (IsOverridden h.now.decls.now) at) }
+{
+    let upward = chain(alloc, h, at)?;
+    let levels = levels(alloc, h.decls.len(), upward.as_slice())?;
+    let methods = h.decls[at].methods.as_slice();
+    let mut row = Items::new(alloc);
+    for method in 0..methods.len() {
+        let place = Place {
+            decl: at as u16,
+            method: method as u16,
+        };
+        let above = overridden_by(
+            h,
+            upward.as_slice(),
+            levels.as_slice(),
+            links,
+            place,
+            &methods[method],
+        );
+        row.push(above)?;
+    }
+    Ok(row)
+}
+
+/// What each virtual method overrides, if anything, in a row for each declaration (ECMA-335, II.9.9, II.10.3.1).
+///
+/// A method without `newslot` overrides the first method of its name and signature, that is virtual and not private, of
+/// the nearest class above that has one. Signatures are compared in the parameters of the lower class.
+pub fn overridden(
+    alloc: Global,
+    h: &Hierarchy<'_>,
+) -> Result<Items<Items<Option<Place>>>, AllocError>
+    requires { IsSettled h.now.decls.now h.now.places.now h.now.depths.now }
+    ensures { IfOk result (Tabulates h.now.decls.now (IsOverridden h.now.decls.now)) }
+{
+    let linked = links(alloc, h)?;
+    let mut rows = Items::new(alloc);
+    for at in 0..h.decls.len() {
+        let row = overridden_row(alloc, h, linked.as_slice(), at)?;
+        rows.push(row)?;
+    }
+    Ok(rows)
 }
