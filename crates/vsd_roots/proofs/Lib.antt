@@ -1,3 +1,5 @@
 pub mod LinkLemmas
 pub mod MatchLemmas
+pub mod RootLaws
+pub mod RootLemmas
 pub mod TableLemmas

@@ -9,7 +9,7 @@ use Rattle.vsd_ast.specs.WellFormed.{IsDeclaration, IsWritten, IsMethod as IsWri
 use Rattle.vsd_terms.specs.declared.term.Term.{Term}
 use Rattle.vsd_terms.specs.Size.{greatest}
 use Rattle.vsd_terms.specs.Substitution.{parameters_of}
-use Rattle.vsd_lift.specs.Chain.{envs_of}
+use Rattle.vsd_lift.specs.Chain.{IsChain, envs_of}
 use Rattle.vsd_lift.specs.Lift.{AllFit, Fits, HasRoom}
 use Rattle.vsd_lift.proofs.PlaceLemmas.{All-at}
 use Rattle.vsd_lift.specs.Settled.{IsSettled}
@@ -116,3 +116,15 @@ signature_fits ds places depths chain q level other settled up is here =
     result_fits : (o : Option Term) (parameters : ℕ) → ((count : ℕ) → count ≤ parameters → HasRoom (envs_of ds chain) level count) → IfSome o (IsWritten (length places) parameters) → IfSome o (Fits (envs_of ds chain) level)
     result_fits None parameters room written = tt
     result_fits (Some t) parameters room written = room (parameters_of t) written.bound
+
+-- the search begins at the link of the method itself
+pub start_of_link : (ds : List Decl) (places depths chain : List ℕ) → IsSettled ds places depths → (p : Place) (m : Method) (before : Option Place) → IsMethod ds p m → IsChain ds p.decl chain → IsLink ds depths p before → IsStart ds depths chain m before
+start_of_link ds places depths chain settled p m before is chained link =
+    let up : IsUpward ds chain = record { from = p.decl; within = (method_within ds places depths p m settled is).declared; chained = chained } in
+    let one = same_method ds p p link.method m refl refl link.is_method is in
+    let P : List ℕ → Type 0 = λ name. IsLatest ds depths name (method_rank depths p) before in
+    record {
+      bound = method_rank depths p;
+      latest = subst P (ap (λ (x : Method). x.name) one) link.latest;
+      below = λ l r other. match_below ds places depths chain settled up m l p r chained.first other;
+    }

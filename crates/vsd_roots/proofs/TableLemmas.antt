@@ -1,10 +1,10 @@
 -- Tables over methods, filled one declaration after another.
-use Rattle.std.proofs.Common.{◌≡◌, ℕ, ◌+◌, ◌*◌, ◌<◌, ◌≤◌, List, [], ◌∷◌, ◌++◌, Option, length, get_or, set, length-set, refl, sym, ap, ◌∙◌, subst, Some, IsSomeAnd, ◌⊎◌, inl, inr, arith, get_or-set_same, get_or-set_other}
+use Rattle.std.proofs.Common.{◌≡◌, ℕ, ◌+◌, ◌*◌, ◌<◌, ◌≤◌, List, [], ◌∷◌, ◌++◌, Option, length, get_or, set, length-set, refl, sym, ap, ◌∙◌, subst, Some, None, IsSome, IsSomeAnd, ◌⊎◌, inl, inr, arith, get_or-set_same, get_or-set_other}
 use Rattle.std.specs.List.{slice_get}
 use Rattle.std.proofs.lemmas.Bool.{cases_lt, cases_eq}
 use Rattle.std.proofs.lemmas.List.{get_or_append_left, length_push}
 use Rattle.std.proofs.Math.Seq.{get_or-append_seam}
-use Rattle.std.proofs.lemmas.Option.{slice_get-get_or, slice_get_past, slice_get_within}
+use Rattle.std.proofs.lemmas.Option.{slice_get-get_or, slice_get_past, slice_get_read, slice_get_within}
 use Rattle.vsd_ast.specs.declared.declarations.Decl.{Decl}
 use Rattle.vsd_ast.specs.declared.declarations.Method.{Method}
 use Rattle.vsd_ast.specs.WellFormed.{IsDeclaration}
@@ -174,3 +174,20 @@ pub listed_below : (ds : List Decl) (at : ℕ) (x : Decl) (count : ℕ) → slic
 listed_below ds at x count here few p m decl is =
     let owners : is.owner ≡ x = let both = sym is.declared ∙ ap (slice_get ds) decl ∙ here in cc in
     omega (arith, slice_get_within is.owner.methods p.method m is.listed, ap (λ (y : Decl). length y.methods) owners)
+
+-- ---- entries that are there
+
+pub some_entry : {A : Type 0} (o : Option A) (P : A → Type 0) → IsSomeAnd o P → IsSome o
+some_entry None P has = absurd has
+some_entry (Some x) P has = refl
+
+pub entry_has : {A : Type 0} (o : Option A) (x : A) (P : A → Type 0) → o ≡ Some x → IsSomeAnd o P → P x
+entry_has {A} o x P is has = let Q : Option A → Type 0 = λ p. IsSomeAnd p P in subst Q is has
+
+-- the method of a declaration that code reads
+pub method_here : (ds : List Decl) (at i : ℕ) (d : Decl) (methods : List Method) → at < length ds → methods ≡ (get_or ds at d).methods → i < length methods → (m : Method) → m ≡ get_or methods i m → IsMethod ds (record { decl = at; method = i }) m
+method_here ds at i d methods inside are within m read = record {
+  owner = get_or ds at d;
+  declared = slice_get-get_or ds at d inside;
+  listed = ap (λ (l : List Method). slice_get l i) (sym are) ∙ slice_get_read methods (length methods) i m refl within read;
+}

@@ -8,19 +8,13 @@ use Rattle.vsd_roots.specs.Order.{IsLatest, IsLink, method_rank}
 use Rattle.vsd_roots.specs.Slots.{Matches}
 use Rattle.vsd_roots.specs.declared.place.Place.{Place}
 use Rattle.vsd_roots.proofs.MatchLemmas.{nearest_here, nearest_later, nearest_none}
+use Rattle.vsd_roots.proofs.TableLemmas.{entry_has, some_entry}
 use Rattle.vsd_roots.proofs.overriding.nearest.Invariants.{rank_from}
 use Rattle.vsd_roots.proofs.overriding.nearest.Goals as goal
 
 -- the start, where it is a method
 start_at : (ds : List Decl) (depths chain : List ℕ) (m : Method) (o : Option Place) (q : Place) → o ≡ Some q → IsStart ds depths chain m o → IsStart ds depths chain m (Some q)
 start_at ds depths chain m o q is start = subst (λ (p : Option Place). IsStart ds depths chain m p) is start
-
-some_entry : {A : Type 0} (o : Option A) (P : A → Type 0) → IsSomeAnd o P → IsSome o
-some_entry None P has = absurd has
-some_entry (Some x) P has = refl
-
-entry_has : {A : Type 0} (o : Option A) (x : A) (P : A → Type 0) → o ≡ Some x → IsSomeAnd o P → P x
-entry_has o x P is has = subst (λ p. IsSomeAnd p P) is has
 
 link_below : (ds : List Decl) (depths : List ℕ) (q : Place) (before : Option Place) → IsLink ds depths q before → rank_from depths before < rank_from depths (Some q)
 link_below ds depths q None link = omega arith

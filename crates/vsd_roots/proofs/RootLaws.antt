@@ -1,0 +1,74 @@
+-- What a root is, in other words: a method has one root; two methods have the same one exactly where overrides lead both
+-- to one method.
+use Rattle.std.proofs.Common.{◌≡◌, ℕ, zero, suc, ◌<◌, ◌≤◌, ◌↔◌, List, refl, sym, ap, ◌∙◌, subst, true, false, ◌⊎◌, inl, inr, arith}
+use Rattle.std.specs.List.{slice_get}
+use Rattle.std.proofs.lemmas.Bool.{false≢true}
+use Rattle.vsd_ast.specs.declared.declarations.Decl.{Decl}
+use Rattle.vsd_ast.specs.declared.declarations.Method.{Method}
+use Rattle.vsd_lift.proofs.ChainLemmas.{chain-unique}
+use Rattle.vsd_roots.specs.Methods.{IsMethod}
+use Rattle.vsd_roots.specs.Slots.{Climbs, HasMatch, IsNearest, IsRoot, Overrides, StartsSlot}
+use Rattle.vsd_roots.specs.declared.place.Place.{Place}
+use Rattle.vsd_roots.proofs.MatchLemmas.{same_place}
+use Rattle.vsd_roots.proofs.TableLemmas.{same_method}
+
+module _ (ds : List Decl) where
+  nearest_only : (chain : List ℕ) (m : Method) (q r : Place) → IsNearest ds chain m q → IsNearest ds chain m r → q ≡ r
+  nearest_only chain m q r a b =
+      elim (a.nearest b.level r b.matches) [
+        | inl lower ↦ (
+          elim (b.nearest a.level q a.matches) [
+            | inl higher ↦ absurd (omega arith)
+            | inr same ↦ absurd (omega (arith, same.0))
+          ]
+        )
+        | inr one ↦ (
+          elim (b.nearest a.level q a.matches) [
+            | inl higher ↦ absurd (omega (arith, one.0))
+            | inr other ↦ (
+              let decls : q.decl ≡ r.decl = let both = sym a.matches.stands ∙ ap (slice_get chain) one.0 ∙ b.matches.stands in cc in
+              same_place q r decls (omega (arith, one.1, other.1))
+            )
+          ]
+        )
+      ]
+
+  -- a method overrides one method
+  pub overrides_only : (p q r : Place) → Overrides ds p q → Overrides ds p r → q ≡ r
+  overrides_only p q r a b =
+      let methods = same_method ds p p a.method b.method refl refl a.is_method b.is_method in
+      let chains = chain-unique ds p.decl a.chain b.chain a.upward b.upward in
+      let P : List ℕ → Method → Type 0 = λ chain m. IsNearest ds chain m q in
+      nearest_only b.chain b.method q r (subst (λ (m : Method). P b.chain m) methods (subst (λ (l : List ℕ). P l a.method) chains a.nearest)) b.nearest
+
+  -- a method that overrides another starts no slot
+  pub overrides_or_starts : (p q : Place) → Overrides ds p q → StartsSlot ds p → ⊥
+  overrides_or_starts p q over starts =
+      let methods = same_method ds p p over.method starts.method refl refl over.is_method starts.is_method in
+      let chains = chain-unique ds p.decl over.chain starts.chain over.upward starts.upward in
+      elim starts.new [
+        | inl new ↦ false≢true (sym over.old ∙ ap (λ (m : Method). m.newslot) methods ∙ new)
+        | inr none ↦ (
+          let P : List ℕ → Method → Type 0 = λ chain m. HasMatch ds chain m in
+          none (subst (λ (m : Method). P starts.chain m) methods (subst (λ (l : List ℕ). P l over.method) chains (over.nearest.level, (q, over.nearest.matches))))
+        )
+      ]
+
+  abbrev pub Reaches : Place → Place → Type 0
+  Reaches p q = (n : ℕ) × Climbs ds n p q
+
+  -- what is reached on the way has the root of the method below
+  pub root_of_reached : (n : ℕ) (p q root : Place) → Climbs ds n p q → IsRoot ds p root → IsRoot ds q root
+  root_of_reached zero p q root same is = subst (λ (r : Place). IsRoot ds r root) same is
+  root_of_reached (suc n) p q root climbs is = further is.steps is.climbs
+    where
+      further : (steps : ℕ) → Climbs ds steps p root → IsRoot ds q root
+      further steps climbed = ?
+
+  -- a method has one root
+  pub root_only : (p r s : Place) → IsRoot ds p r → IsRoot ds p s → r ≡ s
+  root_only p r s a b = ?
+
+  -- two methods have one root exactly where overrides lead both to one method
+  pub one_root : (p q r s : Place) → IsRoot ds p r → IsRoot ds q s → (r ≡ s) ↔ ((c : Place) × (Reaches p c × Reaches q c))
+  one_root p q r s a b = ?
