@@ -57,18 +57,32 @@ module _ (ds : List Decl) where
   abbrev pub Reaches : Place → Place → Type 0
   Reaches p q = (n : ℕ) × Climbs ds n p q
 
+  -- behind the first override the way to the root goes on
+  behind_first : (p q root : Place) (n : ℕ) → Overrides ds p q → StartsSlot ds root → Climbs ds n p root → Reaches q root
+  behind_first p q root zero over starts same = absurd (overrides_or_starts root q (subst (λ (r : Place). Overrides ds r q) same over) starts)
+  behind_first p q root (suc n) over starts climbs =
+      let one = overrides_only p climbs.0 q climbs.1.0 over in
+      (n, subst (λ (r : Place). Climbs ds n r root) one climbs.1.1)
+
   -- what is reached on the way has the root of the method below
   pub root_of_reached : (n : ℕ) (p q root : Place) → Climbs ds n p q → IsRoot ds p root → IsRoot ds q root
   root_of_reached zero p q root same is = subst (λ (r : Place). IsRoot ds r root) same is
-  root_of_reached (suc n) p q root climbs is = further is.steps is.climbs
-    where
-      further : (steps : ℕ) → Climbs ds steps p root → IsRoot ds q root
-      further steps climbed = ?
+  root_of_reached (suc n) p q root climbs is =
+      let rest = behind_first p climbs.0 root is.steps climbs.1.0 is.starts is.climbs in
+      root_of_reached n climbs.0 q root climbs.1.1 (record { steps = rest.0; climbs = rest.1; starts = is.starts })
+
+  stays : (p q : Place) (n : ℕ) → StartsSlot ds p → Climbs ds n p q → p ≡ q
+  stays p q zero starts same = same
+  stays p q (suc n) starts climbs = absurd (overrides_or_starts p climbs.0 climbs.1.0 starts)
 
   -- a method has one root
   pub root_only : (p r s : Place) → IsRoot ds p r → IsRoot ds p s → r ≡ s
-  root_only p r s a b = ?
+  root_only p r s a b =
+      let other = root_of_reached a.steps p r s a.climbs b in
+      stays r s other.steps a.starts other.climbs
 
   -- two methods have one root exactly where overrides lead both to one method
   pub one_root : (p q r s : Place) → IsRoot ds p r → IsRoot ds q s → (r ≡ s) ↔ ((c : Place) × (Reaches p c × Reaches q c))
-  one_root p q r s a b = ?
+  one_root p q r s a b =
+      (λ same. (r, ((a.steps, a.climbs), (b.steps, subst (λ (t : Place). Climbs ds b.steps q t) (sym same) b.climbs))),
+      λ meet. root_only meet.0 r s (root_of_reached meet.1.0.0 p meet.0 r meet.1.0.1 a) (root_of_reached meet.1.1.0 q meet.0 s meet.1.1.1 b))
