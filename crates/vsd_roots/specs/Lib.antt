@@ -1,4 +1,6 @@
+pub mod Final
 pub mod Levels
 pub mod Methods
 pub mod Order
 pub mod Slots
+pub mod Variance

@@ -1,12 +1,16 @@
 //! Roots of virtual methods, and the conditions on overriding.
 #![tactic(auto)]
 
+mod finals;
 mod links;
 mod overriding;
 mod place;
 mod rooting;
 mod rows;
+mod variance;
 
+pub use finals::overrides_final;
 pub use overriding::overridden;
 pub use place::Place;
 pub use rooting::roots;
+pub use variance::Position;
