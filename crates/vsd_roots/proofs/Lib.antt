@@ -3,3 +3,5 @@ pub mod MatchLemmas
 pub mod RootLaws
 pub mod RootLemmas
 pub mod TableLemmas
+pub mod VarianceLaws
+pub mod VarianceLemmas

@@ -1,3 +1,4 @@
+pub mod Bodies
 pub mod Final
 pub mod Levels
 pub mod Methods

@@ -1,6 +1,7 @@
 //! Roots of virtual methods, and the conditions on overriding.
 #![tactic(auto)]
 
+mod abstracts;
 mod finals;
 mod links;
 mod overriding;
@@ -13,4 +14,4 @@ pub use finals::overrides_final;
 pub use overriding::overridden;
 pub use place::Place;
 pub use rooting::roots;
-pub use variance::Position;
+pub use variance::{Position, misplaced_variance};
