@@ -1,5 +1,5 @@
 //! Classes that aren't abstract and leave a slot with an abstract body.
-ghost use Rattle.std.specs.Prelude.{◌≡◌, ℕ, ◌+◌, ◌*◌, ◌<◌, ◌≤◌, ◌↔◌, true, length, slice_get, slice_index_or, IfOk, OnOk, IsTrue, Some, if◌then◌else◌};
+ghost use Rattle.std.specs.Prelude.{◌≡◌, ℕ, ◌+◌, ◌*◌, ◌<◌, ◌≤◌, ◌⊎◌, ◌↔◌, true, length, slice_get, slice_index_or, IfOk, OnOk, IsTrue, Some, if◌then◌else◌};
 ghost use Rattle.std.specs.HashSet.{contains};
 ghost use Rattle.vsd_ast.specs.declared.declarations.Method.{Method};
 ghost use Rattle.vsd_least.specs.Least.{IsLeast};
@@ -19,6 +19,13 @@ use std::collections::HashSet;
 use vsd_ast::Decl;
 use vsd_least::shown;
 use vsd_lift::{Hierarchy, chain, extended};
+
+// Whether an abstract body was found before, or the method is one: it is abstract, and its root is new.
+fn is_found(before: bool, new: bool, is_abstract: bool) -> bool
+    ensures { IsTrue result ↔ (IsTrue before ⊎ (IsTrue new × IsTrue is_abstract)) }
+{
+    before || (new && is_abstract)
+}
 
 // Adds the roots of the methods of the class at a level, and whether a body among them is abstract.
 fn scan_class(
@@ -47,7 +54,7 @@ fn scan_class(
         };
         let root = entry_of(roots, place);
         let new = seen.insert(root)?;
-        found = found || (new && methods[method].is_abstract);
+        found = is_found(found, new, methods[method].is_abstract);
     }
     Ok(found)
 }
