@@ -1,3 +1,4 @@
+pub mod AbstractLemmas
 pub mod LinkLemmas
 pub mod MatchLemmas
 pub mod RootLaws

@@ -1,5 +1,5 @@
 //! Classes that aren't abstract and leave a slot with an abstract body.
-ghost use Rattle.std.specs.Prelude.{◌≡◌, ℕ, ◌+◌, ◌*◌, ◌<◌, ◌≤◌, ◌⊎◌, ◌↔◌, true, length, slice_get, slice_index_or, IfOk, OnOk, IsTrue, Some, if◌then◌else◌};
+ghost use Rattle.std.specs.Prelude.{◌≡◌, ℕ, ◌+◌, ◌*◌, ◌<◌, ◌≤◌, ◌⊎◌, ◌↔◌, true, false, length, slice_get, slice_index_or, IfOk, OnOk, IsTrue, Some, if◌then◌else◌};
 ghost use Rattle.std.specs.HashSet.{contains};
 ghost use Rattle.vsd_ast.specs.declared.declarations.Method.{Method};
 ghost use Rattle.vsd_least.specs.Least.{IsLeast};
@@ -133,4 +133,69 @@ fn has_abstract(
     let upward = chain(alloc, h, at)?;
     let limit = levels_to_scan(base, upward.len());
     has_abstract_below(alloc, h, upward.as_slice(), roots, limit)
+}
+
+// Marks the declarations of one depth.
+fn mark_depth(
+    alloc: Global,
+    h: &Hierarchy<'_>,
+    roots: &[Items<Place>],
+    depth: u32,
+    marks: &mut Vec<bool>,
+) -> Result<(), AllocError>
+    requires settled { IsSettled h.now.decls.now h.now.places.now h.now.depths.now }
+    requires roots { Tabulates h.now.decls.now (IsRoot h.now.decls.now) roots.now }
+    requires marked { MarksBelow h.now.decls.now h.now.depths.now (1024 * depth) marks.old.items }
+    ensures { OnOk result (MarksBelow h.now.decls.now h.now.depths.now (1024 * (depth + 1)) marks.new.items) }
+{
+    for at in 0..h.decls.len() {
+        if u32::from(h.depths[at]) != depth {
+            continue;
+        }
+        marks[at] = has_abstract(alloc, h, roots, marks.as_slice(), at)?;
+    }
+    Ok(())
+}
+
+/// For each declaration whether one of its slots, its own or inherited, has an abstract body (ECMA-335, II.15.4.2.4).
+///
+/// A slot's body in a class is the method with the slot's root in the nearest class from that one upward, the later one
+/// of two in one class.
+pub fn abstract_bodies(
+    alloc: Global,
+    h: &Hierarchy<'_>,
+    roots: &[Items<Place>],
+) -> Result<Vec<bool>, AllocError>
+    requires settled { IsSettled h.now.decls.now h.now.places.now h.now.depths.now }
+    requires roots { Tabulates h.now.decls.now (IsRoot h.now.decls.now) roots.now }
+    ensures { IfOk result (λ marks. Marks h.now.decls.now marks.items) }
+{
+    let mut marks = vec![in alloc; false; h.decls.len()]?;
+    let end = u32::from(deepest(h.depths)) + 1;
+    for depth in 0..end {
+        mark_depth(alloc, h, roots, depth, &mut marks)?;
+    }
+    Ok(marks)
+}
+
+fn is_concrete(decl: &Decl) -> bool
+    ensures { IsTrue result ↔ ((decl.now.is_interface ≡ false) × (decl.now.is_abstract ≡ false)) }
+{
+    !decl.is_interface && !decl.is_abstract
+}
+
+/// The line of the declaration, where it is a class that isn't abstract and one of its slots has an abstract body
+/// (ECMA-335, II.10.1.4, II.15.4.2.4). `marks` is what [`abstract_bodies`] gives.
+pub fn abstract_in_concrete(
+    h: &Hierarchy<'_>,
+    marks: &[bool],
+    place: usize,
+    decl: &Decl,
+) -> Option<u32>
+    requires there { slice_get h.now.decls.now place ≡ Some decl.now }
+    requires marks { Marks h.now.decls.now marks.now }
+    ensures { IsLeast (ShowsAbstract h.now.decls.now place decl.now) result }
+{
+    let shows = is_concrete(decl) && marks[place];
+    shown(shows, decl.line)
 }

@@ -10,6 +10,7 @@ mod rooting;
 mod rows;
 mod variance;
 
+pub use abstracts::{abstract_bodies, abstract_in_concrete};
 pub use finals::overrides_final;
 pub use overriding::overridden;
 pub use place::Place;
