@@ -1,13 +1,11 @@
 -- Abstract bodies of a class and of its base, and the marks that tell of them.
-use Rattle.std.proofs.Common.{◌≡◌, ℕ, zero, suc, ◌+◌, ◌-◌, ◌*◌, ◌<◌, ◌≤◌, Bool, true, false, IsTrue, ◌↔◌, List, [], ◌∷◌, length, get_or, set, length-set, get_or-set_same, get_or-set_other, refl, sym, ap, ◌∙◌, subst, Some, None, add-one, ◌⊎◌, inl, inr, arith}
+use Rattle.std.proofs.Common.{◌≡◌, ℕ, suc, ◌+◌, ◌<◌, ◌≤◌, Bool, true, false, IsTrue, ◌↔◌, List, [], ◌∷◌, length, get_or, set, length-set, get_or-set_same, get_or-set_other, refl, sym, ap, ◌∙◌, subst, Some, add-one, inl, inr, arith}
 use Rattle.std.specs.List.{slice_get}
 use Rattle.std.proofs.lemmas.Bool.{cases_eq, cases_lt}
-use Rattle.std.proofs.lemmas.Option.{slice_get_within}
 use Rattle.vsd_ast.specs.declared.declarations.Decl.{Decl}
 use Rattle.vsd_ast.specs.declared.declarations.Method.{Method}
 use Rattle.vsd_lift.specs.Chain.{IsChain, place_above}
-use Rattle.vsd_roots.specs.Bodies.{AbstractBelow, AbstractBody, BaseHasAbstract, HasAbstract, IsBody, Marks, MarksBelow, distance}
-use Rattle.vsd_roots.specs.Methods.{IsMethod}
+use Rattle.vsd_roots.specs.Bodies.{AbstractBody, BaseHasAbstract, HasAbstract, Marks, MarksBelow}
 use Rattle.vsd_roots.specs.Order.{rank}
 use Rattle.vsd_roots.specs.declared.place.Place.{Place}
 
@@ -17,10 +15,10 @@ module _ (ds : List Decl) where
   tail_chain n b rest is = record {
     first = refl;
     next = λ level m here.
-      let one : level + 1 ≡ suc level = add-one level in
-      let lower : slice_get (n ∷ b ∷ rest) (level + 1) ≡ Some m = ap (slice_get (n ∷ b ∷ rest)) one ∙ here in
-      let two : (level + 1) + 1 ≡ suc (level + 1) = add-one (level + 1) in
-      is.next (level + 1) m lower ∙ ap (slice_get (n ∷ b ∷ rest)) two;
+        let one : level + 1 ≡ suc level = add-one level in
+        let lower : slice_get (n ∷ b ∷ rest) (level + 1) ≡ Some m = ap (slice_get (n ∷ b ∷ rest)) one ∙ here in
+        let two : (level + 1) + 1 ≡ suc (level + 1) = add-one (level + 1) in
+        is.next (level + 1) m lower ∙ ap (slice_get (n ∷ b ∷ rest)) two;
   }
 
   tail_body : (n : ℕ) (rest : List ℕ) (level : ℕ) (body : Place) → AbstractBody ds (n ∷ rest) (suc level) body → AbstractBody ds rest level body
@@ -82,16 +80,16 @@ module _ (ds : List Decl) where
     marks-set bound next at mark few inside here one is before = record {
       long = length-set marks at mark ∙ before.long;
       each = λ i i_in below.
-        let P : Bool → Type 0 = λ b. IsTrue b ↔ HasAbstract ds i in
-        elim (cases_eq i at) [
-          | inl same ↦ (
-            let read : get_or (set marks at mark) i false ≡ mark = ap (λ (k : ℕ). get_or (set marks at mark) k false) same ∙ get_or-set_same marks at mark false (omega (arith, before.long)) in
-            subst P (sym read) (subst (λ (k : ℕ). IsTrue mark ↔ HasAbstract ds k) (sym same) is)
-          )
-          | inr other ↦ (
-            let read : get_or (set marks at mark) i false ≡ get_or marks i false = get_or-set_other marks at i mark false other in
-            let lower : rank depths i < bound = elim (cases_lt (rank depths i) bound) [ inl lt ↦ lt | inr ge ↦ absurd (other (omega arith)) ] in
-            subst P (sym read) (before.each i i_in lower)
-          )
-        ];
+          let P : Bool → Type 0 = λ b. IsTrue b ↔ HasAbstract ds i in
+          elim (cases_eq i at) [
+            | inl same ↦ (
+                let read : get_or (set marks at mark) i false ≡ mark = ap (λ (k : ℕ). get_or (set marks at mark) k false) same ∙ get_or-set_same marks at mark false (omega (arith, before.long)) in
+                subst P (sym read) (subst (λ (k : ℕ). IsTrue mark ↔ HasAbstract ds k) (sym same) is)
+                )
+            | inr other ↦ (
+                let read : get_or (set marks at mark) i false ≡ get_or marks i false = get_or-set_other marks at i mark false other in
+                let lower : rank depths i < bound = elim (cases_lt (rank depths i) bound) [ inl lt ↦ lt | inr ge ↦ absurd (other (omega arith)) ] in
+                subst P (sym read) (before.each i i_in lower)
+                )
+          ];
     }

@@ -1,4 +1,5 @@
 pub mod AbstractLemmas
+pub mod BodyLaws
 pub mod LinkLemmas
 pub mod MatchLemmas
 pub mod RootLaws

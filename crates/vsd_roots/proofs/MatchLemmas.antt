@@ -1,5 +1,5 @@
 -- The search for the nearest match among the methods of one name.
-use Rattle.std.proofs.Common.{◌≡◌, ℕ, suc, All, IfSome, [], ◌∷◌, map, ◌+◌, ◌-◌, ◌*◌, ◌<◌, ◌≤◌, List, length, get_or, refl, sym, ap, ◌∙◌, subst, Option, Some, None, IsSomeAnd, ◌⊎◌, inl, inr, arith}
+use Rattle.std.proofs.Common.{◌≡◌, ℕ, suc, All, IfSome, [], ◌∷◌, map, ◌<◌, ◌≤◌, List, length, refl, sym, ap, ◌∙◌, subst, Option, Some, None, inl, inr, arith}
 use Rattle.std.specs.List.{slice_get}
 use Rattle.std.proofs.lemmas.Bool.{cases_lt, cases_order}
 use Rattle.vsd_ast.specs.declared.declarations.Decl.{Decl}
@@ -15,12 +15,12 @@ use Rattle.vsd_lift.proofs.PlaceLemmas.{All-at}
 use Rattle.vsd_lift.specs.Settled.{IsSettled}
 use Rattle.vsd_lift.proofs.ChainLemmas.{chain-deeper, chain-room}
 use Rattle.vsd_roots.specs.Levels.{IsStart, IsUpward}
-use Rattle.vsd_roots.specs.Methods.{IsMethod, Tabulates, entry}
+use Rattle.vsd_roots.specs.Methods.{IsMethod}
 use Rattle.vsd_roots.specs.Order.{IsLatest, IsLink, method_rank, rank}
 use Rattle.vsd_roots.specs.Slots.{HasMatch, IsNearest, Matches}
 use Rattle.vsd_roots.specs.declared.place.Place.{Place}
 use Rattle.vsd_roots.proofs.LinkLemmas.{one_of_rank}
-use Rattle.vsd_roots.proofs.TableLemmas.{Within, method_within, same_method}
+use Rattle.vsd_roots.proofs.TableLemmas.{method_within, same_method}
 
 pub same_place : (p q : Place) → p.decl ≡ q.decl → p.method ≡ q.method → p ≡ q
 same_place p q decls methods =
@@ -42,25 +42,25 @@ module _ (ds : List Decl) (places depths chain : List ℕ) (settled : IsSettled 
     level = level;
     matches = matches;
     nearest = λ l r other.
-      let a = method_within ds places depths q matches.other settled matches.is_other in
-      let b = method_within ds places depths r other.other settled other.is_other in
-      let a_decl = a.decl in
-      let b_decl = b.decl in
-      let a_method = a.method in
-      let b_method = b.method in
-      let latest : method_rank depths r ≤ method_rank depths q = start.latest.latest r other.other other.is_other other.name (start.below l r other) in
-      elim (cases_order level l) [
-        | inl same ↦ (
-          let decls : q.decl ≡ r.decl = let both = sym matches.stands ∙ ap (slice_get chain) same ∙ other.stands in cc in
-          inr (same, omega (arith, ap (rank depths) decls))
-        )
-        | inr differ ↦ (
-          elim differ [
-            | inl lt ↦ inl lt
-            | inr gt ↦ absurd (omega (arith, chain-deeper ds places depths up.from chain settled up.within up.chained l level r.decl q.decl other.stands matches.stands gt))
-          ]
-        )
-      ];
+        let a = method_within ds places depths q matches.other settled matches.is_other in
+        let b = method_within ds places depths r other.other settled other.is_other in
+        let a_decl = a.decl in
+        let b_decl = b.decl in
+        let a_method = a.method in
+        let b_method = b.method in
+        let latest : method_rank depths r ≤ method_rank depths q = start.latest.latest r other.other other.is_other other.name (start.below l r other) in
+        elim (cases_order level l) [
+          | inl same ↦ (
+              let decls : q.decl ≡ r.decl = let both = sym matches.stands ∙ ap (slice_get chain) same ∙ other.stands in cc in
+              inr (same, omega (arith, ap (rank depths) decls))
+              )
+          | inr differ ↦ (
+              elim differ [
+                | inl lt ↦ inl lt
+                | inr gt ↦ absurd (omega (arith, chain-deeper ds places depths up.from chain settled up.within up.chained l level r.decl q.decl other.stands matches.stands gt))
+              ]
+              )
+        ];
   }
 
   -- where it doesn't match, the search goes on below it
@@ -73,15 +73,15 @@ module _ (ds : List Decl) (places depths chain : List ℕ) (settled : IsSettled 
         bound = method_rank depths q;
         latest = subst P (ap (λ (x : Method). x.name) one ∙ named.1.1.0) link.latest;
         below = λ l r other.
-          let latest : method_rank depths r ≤ method_rank depths q = start.latest.latest r other.other other.is_other other.name (start.below l r other) in
-          elim (cases_lt (method_rank depths r) (method_rank depths q)) [
-            | inl lt ↦ lt
-            | inr ge ↦ (
-              let ranks : method_rank depths r ≡ method_rank depths q = omega arith in
-              let where_ = one_of_rank ds places depths settled r q other.other named.0 ranks other.is_other named.1.0 in
-              absurd (none l (subst (λ (p : Place). Matches ds chain m l p) (same_place r q where_.0 where_.1) other))
-            )
-          ];
+            let latest : method_rank depths r ≤ method_rank depths q = start.latest.latest r other.other other.is_other other.name (start.below l r other) in
+            elim (cases_lt (method_rank depths r) (method_rank depths q)) [
+              | inl lt ↦ lt
+              | inr ge ↦ (
+                  let ranks : method_rank depths r ≡ method_rank depths q = omega arith in
+                  let where_ = one_of_rank ds places depths settled r q other.other named.0 ranks other.is_other named.1.0 in
+                  absurd (none l (subst (λ (p : Place). Matches ds chain m l p) (same_place r q where_.0 where_.1) other))
+                  )
+            ];
       }
 
   pub nearest_none : IsStart ds depths chain m None → HasMatch ds chain m → ⊥

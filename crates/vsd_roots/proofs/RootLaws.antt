@@ -1,12 +1,11 @@
 -- What a root is, in other words: a method has one root; two methods have the same one exactly where overrides lead both
 -- to one method.
-use Rattle.std.proofs.Common.{◌≡◌, ℕ, zero, suc, ◌<◌, ◌≤◌, ◌↔◌, List, refl, sym, ap, ◌∙◌, subst, true, false, ◌⊎◌, inl, inr, arith}
+use Rattle.std.proofs.Common.{◌≡◌, ℕ, zero, suc, ◌↔◌, List, refl, sym, ap, ◌∙◌, subst, inl, inr, arith}
 use Rattle.std.specs.List.{slice_get}
 use Rattle.std.proofs.lemmas.Bool.{false≢true}
 use Rattle.vsd_ast.specs.declared.declarations.Decl.{Decl}
 use Rattle.vsd_ast.specs.declared.declarations.Method.{Method}
 use Rattle.vsd_lift.proofs.ChainLemmas.{chain-unique}
-use Rattle.vsd_roots.specs.Methods.{IsMethod}
 use Rattle.vsd_roots.specs.Slots.{Climbs, HasMatch, IsNearest, IsRoot, Overrides, StartsSlot}
 use Rattle.vsd_roots.specs.declared.place.Place.{Place}
 use Rattle.vsd_roots.proofs.MatchLemmas.{same_place}
@@ -17,20 +16,20 @@ module _ (ds : List Decl) where
   nearest_only chain m q r a b =
       elim (a.nearest b.level r b.matches) [
         | inl lower ↦ (
-          elim (b.nearest a.level q a.matches) [
-            | inl higher ↦ absurd (omega arith)
-            | inr same ↦ absurd (omega (arith, same.0))
-          ]
-        )
-        | inr one ↦ (
-          elim (b.nearest a.level q a.matches) [
-            | inl higher ↦ absurd (omega (arith, one.0))
-            | inr other ↦ (
-              let decls : q.decl ≡ r.decl = let both = sym a.matches.stands ∙ ap (slice_get chain) one.0 ∙ b.matches.stands in cc in
-              same_place q r decls (omega (arith, one.1, other.1))
+            elim (b.nearest a.level q a.matches) [
+              | inl higher ↦ absurd (omega arith)
+              | inr same ↦ absurd (omega (arith, same.0))
+            ]
             )
-          ]
-        )
+        | inr one ↦ (
+            elim (b.nearest a.level q a.matches) [
+              | inl higher ↦ absurd (omega (arith, one.0))
+              | inr other ↦ (
+                  let decls : q.decl ≡ r.decl = let both = sym a.matches.stands ∙ ap (slice_get chain) one.0 ∙ b.matches.stands in cc in
+                  same_place q r decls (omega (arith, one.1, other.1))
+                  )
+            ]
+            )
       ]
 
   -- a method overrides one method
@@ -49,9 +48,9 @@ module _ (ds : List Decl) where
       elim starts.new [
         | inl new ↦ false≢true (sym over.old ∙ ap (λ (m : Method). m.newslot) methods ∙ new)
         | inr none ↦ (
-          let P : List ℕ → Method → Type 0 = λ chain m. HasMatch ds chain m in
-          none (subst (λ (m : Method). P starts.chain m) methods (subst (λ (l : List ℕ). P l over.method) chains (over.nearest.level, (q, over.nearest.matches))))
-        )
+            let P : List ℕ → Method → Type 0 = λ chain m. HasMatch ds chain m in
+            none (subst (λ (m : Method). P starts.chain m) methods (subst (λ (l : List ℕ). P l over.method) chains (over.nearest.level, (q, over.nearest.matches))))
+            )
       ]
 
   abbrev pub Reaches : Place → Place → Type 0
@@ -83,6 +82,7 @@ module _ (ds : List Decl) where
 
   -- two methods have one root exactly where overrides lead both to one method
   pub one_root : (p q r s : Place) → IsRoot ds p r → IsRoot ds q s → (r ≡ s) ↔ ((c : Place) × (Reaches p c × Reaches q c))
-  one_root p q r s a b =
-      (λ same. (r, ((a.steps, a.climbs), (b.steps, subst (λ (t : Place). Climbs ds b.steps q t) (sym same) b.climbs))),
-      λ meet. root_only meet.0 r s (root_of_reached meet.1.0.0 p meet.0 r meet.1.0.1 a) (root_of_reached meet.1.1.0 q meet.0 s meet.1.1.1 b))
+  one_root p q r s a b = (
+    λ same. (r, ((a.steps, a.climbs), (b.steps, subst (λ (t : Place). Climbs ds b.steps q t) (sym same) b.climbs))),
+    λ meet. root_only meet.0 r s (root_of_reached meet.1.0.0 p meet.0 r meet.1.0.1 a) (root_of_reached meet.1.1.0 q meet.0 s meet.1.1.1 b),
+  )

@@ -1,15 +1,12 @@
 -- Roots, one override further down, and that a method has one alone.
-use Rattle.std.proofs.Common.{◌≡◌, ℕ, zero, suc, ◌+◌, ◌*◌, ◌<◌, ◌≤◌, List, get_or, refl, sym, ap, ◌∙◌, subst, Option, Some, None, IfSome, true, false, ◌⊎◌, inl, inr, arith}
-use Rattle.std.proofs.lemmas.Bool.{false≢true}
+use Rattle.std.proofs.Common.{ℕ, suc, ◌<◌, List, refl, arith}
 use Rattle.vsd_ast.specs.declared.declarations.Decl.{Decl}
-use Rattle.vsd_ast.specs.declared.declarations.Method.{Method}
 use Rattle.vsd_lift.specs.Settled.{IsSettled}
-use Rattle.vsd_lift.proofs.ChainLemmas.{chain-deeper, chain-unique}
-use Rattle.vsd_roots.specs.Methods.{IsMethod}
+use Rattle.vsd_lift.proofs.ChainLemmas.{chain-deeper}
 use Rattle.vsd_roots.specs.Order.{rank}
-use Rattle.vsd_roots.specs.Slots.{Climbs, IsRoot, IsOverridden, Matches, Overrides, StartsSlot}
+use Rattle.vsd_roots.specs.Slots.{IsRoot, Overrides, StartsSlot}
 use Rattle.vsd_roots.specs.declared.place.Place.{Place}
-use Rattle.vsd_roots.proofs.TableLemmas.{method_within, same_method}
+use Rattle.vsd_roots.proofs.TableLemmas.{method_within}
 
 -- what a method overrides is of a class of lower rank
 pub overrides_lower : (ds : List Decl) (places depths : List ℕ) (p q : Place) → IsSettled ds places depths → Overrides ds p q → rank depths q.decl < rank depths p.decl

@@ -3,14 +3,14 @@ use Rattle.std.proofs.Common.{◌≡◌, ℕ, zero, suc, ◌+◌, ◌-◌, ◌*�
 use Rattle.std.specs.Bool.{Decides}
 use Rattle.std.specs.Cmp.{unsigned_Decides}
 use Rattle.std.specs.List.{slice_get}
-use Rattle.std.proofs.lemmas.Bool.{cases_eq, cases_lt, cases_order, false≢true}
+use Rattle.std.proofs.lemmas.Bool.{cases_lt, cases_order, false≢true}
 use Rattle.std.proofs.lemmas.Bool.Decides.{Decides-and}
 use Rattle.std.proofs.lemmas.Option.{slice_get-get_or}
 use Rattle.vsd_ast.specs.declared.declarations.Decl.{Decl}
 use Rattle.vsd_ast.specs.declared.declarations.Method.{Method}
 use Rattle.vsd_lift.specs.Settled.{IsSettled}
 use Rattle.vsd_lift.proofs.ChainLemmas.{chain-declared}
-use Rattle.vsd_roots.specs.Bodies.{AbstractBelow, AbstractBody, IsBody, ScansTo, SeenBelow, distance, place_eq}
+use Rattle.vsd_roots.specs.Bodies.{AbstractBelow, IsBody, ScansTo, SeenBelow, distance, place_eq}
 use Rattle.vsd_roots.specs.Levels.{IsUpward}
 use Rattle.vsd_roots.specs.Methods.{IsMethod}
 use Rattle.vsd_roots.specs.Slots.{Climbs, IsRoot}
@@ -42,12 +42,14 @@ module _ (ds : List Decl) (places depths chain : List ℕ) (settled : IsSettled 
   -- no method is between the bounds
   pub scan-skip : (bound next : ℕ) (seen : Place → Bool) (found : Bool) → bound ≤ next → ((l : ℕ) (r : Place) (m : Method) → slice_get chain l ≡ Some r.decl → IsMethod ds r m → distance l r < next → distance l r < bound) → ScansTo ds chain bound seen found → ScansTo ds chain next seen found
   scan-skip bound next seen found more none before = record {
-    roots = λ root.
-      (λ h. let s = (before.roots root).0 h in record { level = s.level; place = s.place; method = s.method; is_method = s.is_method; stands = s.stands; below = (let b = s.below in omega arith); rooted = s.rooted },
-      λ s. (before.roots root).1 (record { level = s.level; place = s.place; method = s.method; is_method = s.is_method; stands = s.stands; below = none s.level s.place s.method s.stands s.is_method s.below; rooted = s.rooted }));
-    bodies =
-      (λ h. let a = before.bodies.0 h in record { level = a.level; body = a.body; leaves = a.leaves; below = (let b = a.below in omega arith) },
-      λ a. before.bodies.1 (record { level = a.level; body = a.body; leaves = a.leaves; below = none a.level a.body a.leaves.method a.leaves.is_body.stands a.leaves.is_method a.below }));
+    roots = λ root. (
+      λ h. let s = (before.roots root).0 h in record { level = s.level; place = s.place; method = s.method; is_method = s.is_method; stands = s.stands; below = (let b = s.below in omega arith); rooted = s.rooted },
+      λ s. (before.roots root).1 (record { level = s.level; place = s.place; method = s.method; is_method = s.is_method; stands = s.stands; below = none s.level s.place s.method s.stands s.is_method s.below; rooted = s.rooted }),
+    );
+    bodies = (
+      λ h. let a = before.bodies.0 h in record { level = a.level; body = a.body; leaves = a.leaves; below = (let b = a.below in omega arith) },
+      λ a. before.bodies.1 (record { level = a.level; body = a.body; leaves = a.leaves; below = none a.level a.body a.leaves.method a.leaves.is_body.stands a.leaves.is_method a.below }),
+    );
   }
 
   -- methods at one distance are one
@@ -80,11 +82,11 @@ module _ (ds : List Decl) (places depths chain : List ℕ) (settled : IsSettled 
         elim (cases_lt (distance s.level s.place) bound) [
           | inl lt ↦ kept (place_eq root k) (old k) ((before.roots k).1 (record { level = s.level; place = s.place; method = s.method; is_method = s.is_method; stands = s.stands; below = lt; rooted = s.rooted }))
           | inr ge ↦ (
-            let b = s.below in
-            let same = one_at s.level level s.place p s.method m s.stands stands s.is_method is (omega arith) in
-            let roots_ = root_only ds p root k rooted (subst (λ (q : Place). IsRoot ds q k) same s.rooted) in
-            ap (λ b. cond b true (old k)) ((place_eq-Decides root k).1 roots_)
-          )
+              let b = s.below in
+              let same = one_at s.level level s.place p s.method m s.stands stands s.is_method is (omega arith) in
+              let roots_ = root_only ds p root k rooted (subst (λ (q : Place). IsRoot ds q k) same s.rooted) in
+              ap (λ b. cond b true (old k)) ((place_eq-Decides root k).1 roots_)
+              )
         ]
 
     -- a method whose root wasn't seen is the root's body
@@ -93,19 +95,19 @@ module _ (ds : List Decl) (places depths chain : List ℕ) (settled : IsSettled 
       stands = stands;
       rooted = rooted;
       nearest = λ l r at other.
-        let n = rooted_method ds r root other in
-        let a = method_within ds places depths p m settled is in
-        let b = method_within ds places depths r n.0 settled n.1 in
-        let a_method = a.method in
-        let b_method = b.method in
-        let far : bound ≤ distance l r = elim (cases_lt (distance l r) bound) [
-          | inl lt ↦ absurd (false≢true (sym unseen ∙ (before.roots root).1 (record { level = l; place = r; method = n.0; is_method = n.1; stands = at; below = lt; rooted = other })))
-          | inr ge ↦ omega arith
-        ] in
-        elim (cases_order level l) [
-          | inl same ↦ inr (same, omega arith)
-          | inr differ ↦ elim differ [ inl lt ↦ inl lt | inr gt ↦ absurd (omega arith) ]
-        ];
+          let n = rooted_method ds r root other in
+          let a = method_within ds places depths p m settled is in
+          let b = method_within ds places depths r n.0 settled n.1 in
+          let a_method = a.method in
+          let b_method = b.method in
+          let far : bound ≤ distance l r = elim (cases_lt (distance l r) bound) [
+            | inl lt ↦ absurd (false≢true (sym unseen ∙ (before.roots root).1 (record { level = l; place = r; method = n.0; is_method = n.1; stands = at; below = lt; rooted = other })))
+            | inr ge ↦ omega arith
+          ] in
+          elim (cases_order level l) [
+            | inl same ↦ inr (same, omega arith)
+            | inr differ ↦ elim differ [ inl lt ↦ inl lt | inr gt ↦ absurd (omega arith) ]
+          ];
     }
 
     unseen_of : (b : Bool) → not b ≡ true → b ≡ false
@@ -133,13 +135,13 @@ module _ (ds : List Decl) (places depths chain : List ℕ) (settled : IsSettled 
         elim (cases_lt (distance a.level a.body) bound) [
           | inl lt ↦ finds.1 (inl (before.bodies.1 (record { level = a.level; body = a.body; leaves = a.leaves; below = lt })))
           | inr ge ↦ (
-            let b = a.below in
-            let leaves = a.leaves in
-            let level_same : distance a.level a.body ≡ distance level p = omega arith in
-            let same = one_at a.level level a.body p leaves.method m leaves.is_body.stands stands leaves.is_method is level_same in
-            let methods = same_method ds a.body p leaves.method m (ap (λ (q : Place). q.decl) same) (ap (λ (q : Place). q.method) same) leaves.is_method is in
-            let roots_ = root_only ds p leaves.root root (subst (λ (q : Place). IsRoot ds q leaves.root) same leaves.is_body.rooted) rooted in
-            let unseen : old root ≡ true → ⊥ = λ h.
+              let b = a.below in
+              let leaves = a.leaves in
+              let level_same : distance a.level a.body ≡ distance level p = omega arith in
+              let same = one_at a.level level a.body p leaves.method m leaves.is_body.stands stands leaves.is_method is level_same in
+              let methods = same_method ds a.body p leaves.method m (ap (λ (q : Place). q.decl) same) (ap (λ (q : Place). q.method) same) leaves.is_method is in
+              let roots_ = root_only ds p leaves.root root (subst (λ (q : Place). IsRoot ds q leaves.root) same leaves.is_body.rooted) rooted in
+              let unseen : old root ≡ true → ⊥ = λ h.
               let s = (before.roots root).0 h in
               let near = leaves.is_body.nearest s.level s.place s.stands (subst (λ (r : Place). IsRoot ds s.place r) (sym roots_) s.rooted) in
               let below = s.below in
@@ -148,9 +150,9 @@ module _ (ds : List Decl) (places depths chain : List ℕ) (settled : IsSettled 
               let w_method = w.method in
               let v_method = v.method in
               elim near [ inl lt ↦ omega arith | inr eq ↦ omega (arith, eq.0, eq.1) ]
-            in
-            finds.1 (inr (is_fresh ∙ not_of (old root) unseen, ap (λ (x : Method). x.is_abstract) (sym methods) ∙ leaves.abstract))
-          )
+              in
+              finds.1 (inr (is_fresh ∙ not_of (old root) unseen, ap (λ (x : Method). x.is_abstract) (sym methods) ∙ leaves.abstract))
+              )
         ]
 
     pub scan-put : ScansTo ds chain next new more
@@ -163,17 +165,17 @@ module _ (ds : List Decl) (places depths chain : List ℕ) (settled : IsSettled 
   pub scan-class_start : (level at : ℕ) (x : Decl) (seen : Place → Bool) (found : Bool) → slice_get chain level ≡ Some at → slice_get ds at ≡ Some x → ScansTo ds chain (level * 256) seen found → ScansTo ds chain (level * 256 + (256 - length x.methods)) seen found
   scan-class_start level at x seen found stands here =
       scan-skip (level * 256) (level * 256 + (256 - length x.methods)) seen found (omega arith)
-        (λ l r m at_l is below.
-        let w = method_within ds places depths r m settled is in
-        let method = w.method in
-        elim (cases_order l level) [
-          | inl same ↦ (
+      (λ l r m at_l is below.
+      let w = method_within ds places depths r m settled is in
+      let method = w.method in
+      elim (cases_order l level) [
+        | inl same ↦ (
             let decls : r.decl ≡ at = let both = sym at_l ∙ ap (slice_get chain) same ∙ stands in cc in
             let fewer = listed_below ds at x (length x.methods) here (omega arith) r m decls is in
             absurd (omega arith)
-          )
-          | inr differ ↦ elim differ [ inl lt ↦ omega arith | inr gt ↦ absurd (omega arith) ]
-        ])
+            )
+        | inr differ ↦ elim differ [ inl lt ↦ omega arith | inr gt ↦ absurd (omega arith) ]
+      ])
 
   -- the declaration at a level
   pub declared_at : (level : ℕ) → level < length chain → (x : Decl) × (slice_get ds (get_or chain level 0) ≡ Some x)

@@ -1,5 +1,5 @@
 -- Tables over methods, filled one declaration after another.
-use Rattle.std.proofs.Common.{◌≡◌, ℕ, ◌+◌, ◌*◌, ◌<◌, ◌≤◌, List, [], ◌∷◌, ◌++◌, Option, length, get_or, set, length-set, refl, sym, ap, ◌∙◌, subst, Some, None, IsSome, IsSomeAnd, ◌⊎◌, inl, inr, arith, get_or-set_same, get_or-set_other}
+use Rattle.std.proofs.Common.{◌≡◌, ℕ, ◌+◌, ◌*◌, ◌<◌, ◌≤◌, List, [], ◌∷◌, ◌++◌, Option, length, get_or, set, length-set, refl, sym, ap, ◌∙◌, subst, Some, None, IsSome, IsSomeAnd, inl, inr, arith, get_or-set_same, get_or-set_other}
 use Rattle.std.specs.List.{slice_get}
 use Rattle.std.proofs.lemmas.Bool.{cases_lt, cases_eq}
 use Rattle.std.proofs.lemmas.List.{get_or_append_left, length_push}
@@ -11,8 +11,8 @@ use Rattle.vsd_ast.specs.WellFormed.{IsDeclaration}
 use Rattle.vsd_lift.specs.Settled.{IsSettled}
 use Rattle.vsd_lift.proofs.ChainLemmas.{slice_get-left, slice_get-seam}
 use Rattle.vsd_lift.proofs.PlaceLemmas.{All-at}
-use Rattle.vsd_roots.specs.Methods.{IsMethod, Tabulates, TabulatesFirst, TabulatesPart, TabulatesRow, entry}
-use Rattle.vsd_roots.specs.Order.{TabulatesBelow, rank, method_rank}
+use Rattle.vsd_roots.specs.Methods.{IsMethod, Tabulates, TabulatesFirst, TabulatesPart, TabulatesRow}
+use Rattle.vsd_roots.specs.Order.{TabulatesBelow, rank}
 use Rattle.vsd_roots.specs.declared.place.Place.{Place}
 
 -- ---- a method is within the limits, and its place says which it is
@@ -62,19 +62,19 @@ module _ {A : Type 0} (ds : List Decl) (depths : List ℕ) (Relates : Place → 
   below-set bound next at row few inside here one filled before = record {
     rows = length-set table at row ∙ before.rows;
     each = λ p m is below.
-      elim (cases_eq p.decl at) [
-        | inl same ↦ (
-          let read : get_or (set table at row) p.decl [] ≡ row = ap (λ (i : ℕ). get_or (set table at row) i []) same ∙ get_or-set_same table at row [] (omega (arith, before.rows)) in
-          let P : List A → Type 0 = λ l. IsSomeAnd (slice_get l p.method) (Relates p) in
-          subst P (sym read) (filled.each p m same is)
-        )
-        | inr other ↦ (
-          let read : get_or (set table at row) p.decl [] ≡ get_or table p.decl [] = get_or-set_other table at p.decl row [] other in
-          let P : List A → Type 0 = λ l. IsSomeAnd (slice_get l p.method) (Relates p) in
-          let lower : rank depths p.decl < bound = elim (cases_lt (rank depths p.decl) bound) [ inl lt ↦ lt | inr ge ↦ absurd (other (omega (arith, slice_get_within ds p.decl is.owner is.declared))) ] in
-          subst P (sym read) (before.each p m is lower)
-        )
-      ];
+        elim (cases_eq p.decl at) [
+          | inl same ↦ (
+              let read : get_or (set table at row) p.decl [] ≡ row = ap (λ (i : ℕ). get_or (set table at row) i []) same ∙ get_or-set_same table at row [] (omega (arith, before.rows)) in
+              let P : List A → Type 0 = λ l. IsSomeAnd (slice_get l p.method) (Relates p) in
+              subst P (sym read) (filled.each p m same is)
+              )
+          | inr other ↦ (
+              let read : get_or (set table at row) p.decl [] ≡ get_or table p.decl [] = get_or-set_other table at p.decl row [] other in
+              let P : List A → Type 0 = λ l. IsSomeAnd (slice_get l p.method) (Relates p) in
+              let lower : rank depths p.decl < bound = elim (cases_lt (rank depths p.decl) bound) [ inl lt ↦ lt | inr ge ↦ absurd (other (omega (arith, slice_get_within ds p.decl is.owner is.declared))) ] in
+              subst P (sym read) (before.each p m is lower)
+              )
+        ];
   }
 
 -- ---- a list with one element written
@@ -98,10 +98,10 @@ other_depth ds depths depth at few inside other i i_in below =
     elim (cases_lt (rank depths i) (1024 * depth + at)) [
       | inl lt ↦ lt
       | inr ge ↦ (
-        let same : i ≡ at = omega arith in
-        let deep : get_or depths i 0 ≡ depth = omega arith in
-        absurd (other (ap (λ (k : ℕ). get_or depths k 0) (sym same) ∙ deep))
-      )
+          let same : i ≡ at = omega arith in
+          let deep : get_or depths i 0 ≡ depth = omega arith in
+          absurd (other (ap (λ (k : ℕ). get_or depths k 0) (sym same) ∙ deep))
+          )
     ]
 
 -- behind the last declaration there is none of the depth
@@ -124,18 +124,18 @@ module _ {A : Type 0} (ds : List Decl) (Relates : Place → A → Type 0) where
   part-push decl count row more x pushed here before = record {
     long = ap length pushed ∙ length_push row x ∙ ap (λ (n : ℕ). n + 1) before.long;
     each = λ p m at below is.
-      let P : Option A → Type 0 = λ o. IsSomeAnd o (Relates p) in
-      elim (cases_lt p.method count) [
-        | inl lt ↦ (
-          let kept : slice_get more p.method ≡ slice_get row p.method = ap (λ (l : List A). slice_get l p.method) pushed ∙ slice_get-left row (x ∷ []) p.method (omega (arith, before.long)) in
-          subst P (sym kept) (before.each p m at lt is)
-        )
-        | inr ge ↦ (
-          let end : p.method ≡ count = omega arith in
-          let last : slice_get more p.method ≡ Some x = ap (λ (l : List A). slice_get l p.method) pushed ∙ slice_get-seam row x p.method (end ∙ sym before.long) in
-          subst P (sym last) (here p m at end is)
-        )
-      ];
+        let P : Option A → Type 0 = λ o. IsSomeAnd o (Relates p) in
+        elim (cases_lt p.method count) [
+          | inl lt ↦ (
+              let kept : slice_get more p.method ≡ slice_get row p.method = ap (λ (l : List A). slice_get l p.method) pushed ∙ slice_get-left row (x ∷ []) p.method (omega (arith, before.long)) in
+              subst P (sym kept) (before.each p m at lt is)
+              )
+          | inr ge ↦ (
+              let end : p.method ≡ count = omega arith in
+              let last : slice_get more p.method ≡ Some x = ap (λ (l : List A). slice_get l p.method) pushed ∙ slice_get-seam row x p.method (end ∙ sym before.long) in
+              subst P (sym last) (here p m at end is)
+              )
+        ];
   }
 
   pub part-end : (decl count : ℕ) (row : List A) → ((p : Place) (m : Method) → p.decl ≡ decl → IsMethod ds p m → p.method < count) → TabulatesPart ds Relates decl count row → TabulatesRow ds Relates decl row
@@ -148,19 +148,19 @@ module _ {A : Type 0} (ds : List Decl) (Relates : Place → A → Type 0) where
   first-push count table more row pushed here before = record {
     rows = ap length pushed ∙ length_push table row ∙ ap (λ (n : ℕ). n + 1) before.rows;
     each = λ p m below is.
-      let P : List A → Type 0 = λ l. IsSomeAnd (slice_get l p.method) (Relates p) in
-      let none : List A = [] in
-      elim (cases_lt p.decl count) [
-        | inl lt ↦ (
-          let kept : get_or more p.decl none ≡ get_or table p.decl none = ap (λ (l : List (List A)). get_or l p.decl none) pushed ∙ get_or_append_left table (row ∷ []) none p.decl (omega (arith, before.rows)) in
-          subst P (sym kept) (before.each p m lt is)
-        )
-        | inr ge ↦ (
-          let end : p.decl ≡ count = omega arith in
-          let last : get_or more p.decl none ≡ row = ap (λ (l : List (List A)). get_or l p.decl none) pushed ∙ ap (λ (n : ℕ). get_or (table ++ row ∷ []) n none) (end ∙ sym before.rows) ∙ get_or-append_seam table row [] none in
-          subst P (sym last) (here.each p m end is)
-        )
-      ];
+        let P : List A → Type 0 = λ l. IsSomeAnd (slice_get l p.method) (Relates p) in
+        let none : List A = [] in
+        elim (cases_lt p.decl count) [
+          | inl lt ↦ (
+              let kept : get_or more p.decl none ≡ get_or table p.decl none = ap (λ (l : List (List A)). get_or l p.decl none) pushed ∙ get_or_append_left table (row ∷ []) none p.decl (omega (arith, before.rows)) in
+              subst P (sym kept) (before.each p m lt is)
+              )
+          | inr ge ↦ (
+              let end : p.decl ≡ count = omega arith in
+              let last : get_or more p.decl none ≡ row = ap (λ (l : List (List A)). get_or l p.decl none) pushed ∙ ap (λ (n : ℕ). get_or (table ++ row ∷ []) n none) (end ∙ sym before.rows) ∙ get_or-append_seam table row [] none in
+              subst P (sym last) (here.each p m end is)
+              )
+        ];
   }
 
   pub first-end : (count : ℕ) (table : List (List A)) → count ≡ length ds → TabulatesFirst ds Relates count table → Tabulates ds Relates table

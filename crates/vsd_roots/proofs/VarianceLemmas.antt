@@ -1,9 +1,9 @@
 -- Declarations by their names, as a table has them.
-use Rattle.std.proofs.Common.{◌≡◌, ℕ, suc, ◌+◌, ◌≤◌, Bool, true, false, cond, nat_eq, List, [], ◌∷◌, length, map, refl, sym, ap, ◌∙◌, subst, Option, Some, None, IfSome, All, IsTrue, not, ◌↔◌, arith}
+use Rattle.std.proofs.Common.{◌≡◌, ℕ, suc, ◌+◌, ◌≤◌, Bool, true, false, cond, nat_eq, List, [], ◌∷◌, map, refl, sym, ap, ◌∙◌, Option, Some, None, IfSome, All, IsTrue, not, ◌↔◌, arith}
 use Rattle.std.specs.List.{slice_get}
 use Rattle.std.proofs.lemmas.Bool.{false≢true}
 use Rattle.vsd_ast.specs.Lookup.{declared, place_of}
-use Rattle.vsd_ast.specs.WellFormed.{IsSignature, IsWritten}
+use Rattle.vsd_ast.specs.WellFormed.{IsWritten}
 use Rattle.vsd_ast.specs.declared.declarations.Decl.{Decl}
 use Rattle.vsd_terms.specs.Size.{greatest}
 use Rattle.vsd_terms.specs.Text.{names_of}

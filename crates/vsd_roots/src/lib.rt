@@ -15,4 +15,5 @@ pub use finals::overrides_final;
 pub use overriding::overridden;
 pub use place::Place;
 pub use rooting::roots;
+pub use rows::entry_of;
 pub use variance::{Position, misplaced_variance};

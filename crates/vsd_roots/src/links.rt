@@ -70,7 +70,10 @@ fn link_depth<'a>(
 }
 
 /// For each method the one of its name that comes last before it in the order of depths.
-pub(crate) fn links(alloc: Global, h: &Hierarchy<'_>) -> Result<Items<Items<Option<Place>>>, AllocError>
+pub(crate) fn links(
+    alloc: Global,
+    h: &Hierarchy<'_>,
+) -> Result<Items<Items<Option<Place>>>, AllocError>
     requires { IsSettled h.now.decls.now h.now.places.now h.now.depths.now }
     ensures { IfOk result (Tabulates h.now.decls.now (IsLink h.now.decls.now h.now.depths.now)) }
 {

@@ -7,7 +7,10 @@ use sqlite_items::Items;
 use std::alloc::{AllocError, Global};
 
 /// So many rows, without entries.
-pub(crate) fn empty_rows<T: Drop>(alloc: Global, count: usize) -> Result<Items<Items<T>>, AllocError>
+pub(crate) fn empty_rows<T: Drop>(
+    alloc: Global,
+    count: usize,
+) -> Result<Items<Items<T>>, AllocError>
     ensures { IfOk result (λ rows. length rows ≡ count) }
 {
     let mut rows = Items::new(alloc);
@@ -29,7 +32,7 @@ pub(crate) fn deepest(depths: &[u16]) -> u16
 }
 
 /// The entry of the method at `at`.
-pub(crate) fn entry_of<T: Copy>(table: &[Items<T>], at: Place) -> T
+pub fn entry_of<T: Copy>(table: &[Items<T>], at: Place) -> T
     requires { IsSome (entry table.now at) }
     ensures { entry table.now at ≡ Some result }
 {

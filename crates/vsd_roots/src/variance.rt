@@ -54,7 +54,9 @@ impl Position {
         ensures { result ≡ may_stand sign self }
     {
         match (sign, self) {
-            (Sign::Plain, _) | (Sign::Plus, Position::Positive) | (Sign::Minus, Position::Negative) => true,
+            (Sign::Plain, _)
+            | (Sign::Plus, Position::Positive)
+            | (Sign::Minus, Position::Negative) => true,
             _ => false,
         }
     }

@@ -1,4 +1,4 @@
-use Rattle.std.proofs.Common.{◌≡◌, ℕ, ◌+◌, ◌*◌, ◌<◌, ◌≤◌, Bool, List, length, get_or, sym, ap, ◌∙◌, subst, arith}
+use Rattle.std.proofs.Common.{◌≡◌, ℕ, ◌+◌, ◌*◌, ◌<◌, ◌≤◌, Bool, List, length, get_or, sym, ◌∙◌, subst, arith}
 use Rattle.vsd_roots.specs.Bodies.{MarksBelow}
 use Rattle.vsd_roots.specs.Order.{rank}
 use Rattle.vsd_roots.proofs.AbstractLemmas.{marks-set, marks-skip}

@@ -1,11 +1,11 @@
-use Rattle.std.proofs.Common.{◌≡◌, ℕ, ◌+◌, ◌-◌, ◌*◌, ◌<◌, ◌≤◌, List, length, get_or, refl, sym, ap, ◌∙◌, subst, Some, inl, inr, arith}
+use Rattle.std.proofs.Common.{◌≡◌, ℕ, ◌+◌, ◌-◌, ◌*◌, ◌<◌, List, length, get_or, sym, ap, ◌∙◌, subst, Some, inl, inr, arith}
 use Rattle.std.specs.HashSet.{contains}
 use Rattle.std.specs.List.{slice_get}
 use Rattle.std.proofs.lemmas.Option.{slice_get-get_or, slice_get_cases, slice_get_within}
 use Rattle.vsd_ast.specs.declared.declarations.Decl.{Decl}
 use Rattle.vsd_ast.specs.declared.declarations.Method.{Method}
 use Rattle.vsd_lift.specs.Settled.{IsSettled}
-use Rattle.vsd_roots.specs.Bodies.{ScansTo, distance, place_eq}
+use Rattle.vsd_roots.specs.Bodies.{ScansTo, place_eq}
 use Rattle.vsd_roots.specs.Levels.{IsUpward}
 use Rattle.vsd_roots.specs.Methods.{IsMethod, entry}
 use Rattle.vsd_roots.specs.Slots.{IsRoot}
@@ -79,11 +79,11 @@ overflow_cast-place-in-loop-method c =
     let k = class_at ds h.places.now h.depths.now chain c.args.level c.index-h-decl.result c.requires.settled c.requires.upward c.requires.within in
     elim (slice_get_cases c.as_slice-methods.result.now i).1 [
       | inl w ↦ (
-        let is : IsMethod ds (record { decl = at; method = i }) w.0 = record { owner = get_or ds at c.index-h-decl.result; declared = k.here; listed = ap (λ (l : List Method). slice_get l i) (sym c.as_slice-methods.ensures) ∙ w.2 } in
-        let within = method_within ds h.places.now h.depths.now (record { decl = at; method = i }) w.0 c.requires.settled is in
-        let limit = within.method in
-        omega arith
-      )
+          let is : IsMethod ds (record { decl = at; method = i }) w.0 = record { owner = get_or ds at c.index-h-decl.result; declared = k.here; listed = ap (λ (l : List Method). slice_get l i) (sym c.as_slice-methods.ensures) ∙ w.2 } in
+          let within = method_within ds h.places.now h.depths.now (record { decl = at; method = i }) w.0 c.requires.settled is in
+          let limit = within.method in
+          omega arith
+          )
       | inr past ↦ absurd (omega (arith, past.0))
     ]
 
@@ -97,9 +97,9 @@ entry_of-root-requires c =
     let k = class_at ds h.places.now h.depths.now chain c.args.level c.index-h-decl.result c.requires.settled c.requires.upward c.requires.within in
     elim (slice_get_cases c.as_slice-methods.result.now i).1 [
       | inl w ↦ (
-        let is : IsMethod ds (record { decl = at; method = i }) w.0 = record { owner = get_or ds at c.index-h-decl.result; declared = k.here; listed = ap (λ (l : List Method). slice_get l i) (sym c.as_slice-methods.ensures) ∙ w.2 } in
-        some_entry _ _ (c.requires.roots.each (record { decl = at; method = i }) w.0 is)
-      )
+          let is : IsMethod ds (record { decl = at; method = i }) w.0 = record { owner = get_or ds at c.index-h-decl.result; declared = k.here; listed = ap (λ (l : List Method). slice_get l i) (sym c.as_slice-methods.ensures) ∙ w.2 } in
+          some_entry _ _ (c.requires.roots.each (record { decl = at; method = i }) w.0 is)
+          )
       | inr past ↦ absurd (omega (arith, past.0))
     ]
 

@@ -1,8 +1,7 @@
-use Rattle.std.proofs.Common.{◌≡◌, ℕ, refl, sym, ap, ◌∙◌, subst, Option, Some, None, true, false, IsTrue}
+use Rattle.std.proofs.Common.{sym, ap, ◌∙◌, Option, Some, None}
 use Rattle.std.proofs.lemmas.Bool.{false≢true}
 use Rattle.vsd_ast.specs.declared.declarations.Method.{Method}
-use Rattle.vsd_roots.specs.Final.{OverridesFinal}
-use Rattle.vsd_roots.specs.Methods.{IsMethod, entry}
+use Rattle.vsd_roots.specs.Methods.{entry}
 use Rattle.vsd_roots.specs.Slots.{IsOverridden, Overrides}
 use Rattle.vsd_roots.specs.declared.place.Place.{Place}
 use Rattle.vsd_roots.proofs.RootLaws.{overrides_only, overrides_or_starts}
@@ -24,12 +23,13 @@ returns-in-Some c =
     let ds = c.args.decls.now in
     let is = c.requires.is in
     let above = c.in-Some.above in
-    let over : Overrides ds c.args.at above = entry_has (entry c.args.overridden.now c.args.at) (Some above) (IsOverridden ds c.args.at) c.in-Some.ensures (c.requires.overridden.each c.args.at is.0 is.1) in
-    (λ final. record { above = above; overrides = over; other = c.method_of.result.now; is_other = c.method_of.ensures; final = final },
-    λ o.
-    let places = overrides_only ds c.args.at o.above above o.overrides over in
-    let one = same_method ds o.above above o.other c.method_of.result.now (ap (λ (p : Place). p.decl) places) (ap (λ (p : Place). p.method) places) o.is_other c.method_of.ensures in
-    ap (λ (m : Method). m.is_final) (sym one) ∙ o.final)
+    let over : Overrides ds c.args.at above = entry_has (entry c.args.overridden.now c.args.at) (Some above) (IsOverridden ds c.args.at) c.in-Some.ensures (c.requires.overridden.each c.args.at is.0 is.1) in (
+      λ final. record { above = above; overrides = over; other = c.method_of.result.now; is_other = c.method_of.ensures; final = final },
+      λ o.
+          let places = overrides_only ds c.args.at o.above above o.overrides over in
+          let one = same_method ds o.above above o.other c.method_of.result.now (ap (λ (p : Place). p.decl) places) (ap (λ (p : Place). p.method) places) o.is_other c.method_of.ensures in
+          ap (λ (m : Method). m.is_final) (sym one) ∙ o.final,
+    )
 
 pub returns-in-None : goal.returns-in-None
 returns-in-None c =

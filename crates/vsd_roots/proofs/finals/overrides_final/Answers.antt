@@ -1,11 +1,10 @@
-use Rattle.std.proofs.Common.{◌≡◌, ℕ, ◌<◌, ◌≤◌, List, length, get_or, refl, sym, ap, ◌∙◌, subst, Some, inl, inr, arith}
+use Rattle.std.proofs.Common.{List, get_or, sym, ap, ◌∙◌, subst, inl, inr, arith}
 use Rattle.std.specs.List.{slice_get}
 use Rattle.std.proofs.lemmas.Option.{slice_get-get_or, slice_get_cases}
 use Rattle.vsd_ast.specs.declared.declarations.Method.{Method}
 use Rattle.vsd_least.specs.Least.{AtSome, IsLeast}
 use Rattle.vsd_least.proofs.LeastLaws.{IsLeast-end, IsLeast-next, IsLeast-shown, IsLeast-start}
 use Rattle.vsd_roots.specs.Final.{FinalAt, OverridesFinal}
-use Rattle.vsd_roots.specs.Methods.{IsMethod}
 use Rattle.vsd_roots.proofs.finals.overrides_final.Goals as goal
 
 pub loop-method-init : goal.loop-method-init
@@ -28,7 +27,7 @@ loop-method-preserved c =
     let m : Method = get_or methods i c.index-methods-method.result in
     let here = slice_get-get_or methods i c.index-methods-method.result (omega arith) in
     IsLeast-next methods (FinalAt ds c.args.place) i m c.loop-method.found c.shown.result c.earlier-found.result c.earlier-found.ensures here c.loop-method.invariant
-        (IsLeast-shown (OverridesFinal ds (record { decl = c.args.place; method = i })) c.is_above_final-above.result m.line c.shown.result c.shown.ensures c.is_above_final-above.ensures)
+    (IsLeast-shown (OverridesFinal ds (record { decl = c.args.place; method = i })) c.is_above_final-above.result m.line c.shown.result c.shown.ensures c.is_above_final-above.ensures)
 
 pub returns : goal.returns
 returns c =

@@ -1,7 +1,6 @@
-use Rattle.std.proofs.Common.{◌≡◌, ℕ, ◌+◌, ◌-◌, ◌*◌, ◌<◌, ◌≤◌, length, get_or, set, refl, sym, ap, ◌∙◌, subst, arith, List, Option}
+use Rattle.std.proofs.Common.{◌≡◌, ℕ, ◌+◌, ◌*◌, ◌<◌, ◌≤◌, length, get_or, sym, ◌∙◌, subst, arith}
 use Rattle.std.specs.HashMap.{get}
 use Rattle.vsd_roots.specs.Order.{rank, same_name, AreLatest, IsLink, TabulatesBelow}
-use Rattle.vsd_roots.specs.declared.place.Place.{Place}
 use Rattle.vsd_roots.proofs.LinkLemmas.{latest-skip_ranks}
 use Rattle.vsd_roots.proofs.TableLemmas.{below-set, below-skip, depth_done, other_depth}
 use Rattle.vsd_roots.proofs.links.link_depth.Goals as goal

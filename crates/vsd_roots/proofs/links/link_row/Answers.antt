@@ -1,4 +1,4 @@
-use Rattle.std.proofs.Common.{◌≡◌, ℕ, ◌+◌, ◌-◌, ◌*◌, ◌<◌, ◌≤◌, length, get_or, length-set, replicate, None, Option, refl, sym, ap, ◌∙◌, subst, Some, IsSomeAnd, ◌⊎◌, inl, inr, arith, rules}
+use Rattle.std.proofs.Common.{◌≡◌, ℕ, ◌+◌, ◌-◌, ◌*◌, ◌<◌, length, get_or, length-set, replicate, None, Option, sym, ap, ◌∙◌, subst, Some, IsSomeAnd, inl, inr, arith, rules}
 use Rattle.std.specs.HashMap.{get}
 use Rattle.std.specs.List.{slice_get}
 use Rattle.std.proofs.lemmas.Bool.{cases_eq}
@@ -6,7 +6,7 @@ use Rattle.std.proofs.lemmas.List.{length-replicate}
 use Rattle.std.proofs.lemmas.Option.{slice_get-get_or, slice_get_within}
 use Rattle.vsd_ast.specs.declared.declarations.Decl.{Decl}
 use Rattle.vsd_ast.specs.declared.declarations.Method.{Method}
-use Rattle.vsd_roots.specs.Methods.{IsMethod, TabulatesRow}
+use Rattle.vsd_roots.specs.Methods.{IsMethod}
 use Rattle.vsd_roots.specs.Order.{rank, method_rank, same_name, AreLatest, IsLink}
 use Rattle.vsd_roots.specs.declared.place.Place.{Place}
 use Rattle.vsd_roots.proofs.LinkLemmas.{IsLink-put, latest-put, latest-row_start}
@@ -27,8 +27,8 @@ loop-method-init c =
       count = ap length c.from_vec-row.ensures ∙ ap length filled ∙ length-replicate (length c.as_slice-methods.result.now) empty;
       latest = subst (λ (n : ℕ). AreLatest ds h.depths.now (rank h.depths.now at * 256 + (256 - n)) (get same_name c.args.latest.now)) (sym (ap length methods)) (latest-row_start ds h.places.now h.depths.now c.requires.settled (get same_name c.args.latest.now) at x here c.requires.before);
       done = λ p m decl past is.
-        let owners : is.owner ≡ x = let both = sym is.declared ∙ ap (slice_get ds) decl ∙ here in cc in
-        absurd (omega (arith, slice_get_within is.owner.methods p.method m is.listed, ap (λ (y : Decl). length y.methods) owners, ap length methods));
+          let owners : is.owner ≡ x = let both = sym is.declared ∙ ap (slice_get ds) decl ∙ here in cc in
+          absurd (omega (arith, slice_get_within is.owner.methods p.method m is.listed, ap (λ (y : Decl). length y.methods) owners, ap length methods));
     }
 
 pub loop-method-preserved : goal.loop-method-preserved
@@ -60,19 +60,19 @@ loop-method-preserved c =
       count = ap length c.set.ensures ∙ length-set row i before ∙ c.loop-method.invariant.count;
       latest = latest-put ds h.places.now depths c.requires.settled (get same_name c.loop-method.latest) (get same_name c.insert.new.self) bound (rank depths at * 256 + (256 - i)) p m c.as_slice.result is ranked (omega arith) key c.in_ok-before.ensures.updates.0 c.loop-method.invariant.latest;
       done = λ q n decl past other.
-        elim (cases_eq q.method i) [
-          | inl same ↦ (
-            let one = same_method ds p q m n (sym decl) (sym same) is other in
-            let written : slice_get c.set.new.self q.method ≡ Some before = ap (slice_get c.set.new.self) same ∙ ap (λ l. slice_get l i) c.set.ensures ∙ slice_get-set_same row i before (omega (arith, c.loop-method.invariant.count)) in
-            let same_rank : method_rank depths q ≡ bound = ap (λ (k : ℕ). rank depths k * 256 + (255 - q.method)) decl ∙ ap (λ (k : ℕ). rank depths at * 256 + (255 - k)) same ∙ ranked in
-            let link = IsLink-put ds h.places.now depths c.requires.settled (get same_name c.loop-method.latest) bound q n c.as_slice.result before other same_rank (key ∙ ap (λ (y : Method). y.name) one) c.in_ok-before.ensures.old c.loop-method.invariant.latest in
-            subst (λ o. IsSomeAnd o (IsLink ds depths q)) (sym written) link
-          )
-          | inr differ ↦ (
-            let kept : slice_get c.set.new.self q.method ≡ slice_get row q.method = ap (λ l. slice_get l q.method) c.set.ensures ∙ slice_get-set_other row i q.method before differ in
-            subst (λ o. IsSomeAnd o (IsLink ds depths q)) (sym kept) (c.loop-method.invariant.done q n decl (omega arith) other)
-          )
-        ];
+          elim (cases_eq q.method i) [
+            | inl same ↦ (
+                let one = same_method ds p q m n (sym decl) (sym same) is other in
+                let written : slice_get c.set.new.self q.method ≡ Some before = ap (slice_get c.set.new.self) same ∙ ap (λ l. slice_get l i) c.set.ensures ∙ slice_get-set_same row i before (omega (arith, c.loop-method.invariant.count)) in
+                let same_rank : method_rank depths q ≡ bound = ap (λ (k : ℕ). rank depths k * 256 + (255 - q.method)) decl ∙ ap (λ (k : ℕ). rank depths at * 256 + (255 - k)) same ∙ ranked in
+                let link = IsLink-put ds h.places.now depths c.requires.settled (get same_name c.loop-method.latest) bound q n c.as_slice.result before other same_rank (key ∙ ap (λ (y : Method). y.name) one) c.in_ok-before.ensures.old c.loop-method.invariant.latest in
+                subst (λ o. IsSomeAnd o (IsLink ds depths q)) (sym written) link
+                )
+            | inr differ ↦ (
+                let kept : slice_get c.set.new.self q.method ≡ slice_get row q.method = ap (λ l. slice_get l q.method) c.set.ensures ∙ slice_get-set_other row i q.method before differ in
+                subst (λ o. IsSomeAnd o (IsLink ds depths q)) (sym kept) (c.loop-method.invariant.done q n decl (omega arith) other)
+                )
+          ];
     }
 
 pub returns-clause-after : goal.returns-clause-after

@@ -1,5 +1,5 @@
-use Rattle.std.proofs.Common.{◌≡◌, ℕ, ◌+◌, ◌*◌, ◌<◌, ◌≤◌, length, get_or, sym, arith}
-use Rattle.vsd_roots.specs.Order.{rank, IsLink}
+use Rattle.std.proofs.Common.{◌+◌, ◌*◌, ◌≤◌, arith}
+use Rattle.vsd_roots.specs.Order.{IsLink}
 use Rattle.vsd_roots.proofs.TableLemmas.{all_below, below-end}
 use Rattle.vsd_roots.proofs.links.links.Goals as goal
 

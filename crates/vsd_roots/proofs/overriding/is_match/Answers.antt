@@ -1,4 +1,4 @@
-use Rattle.std.proofs.Common.{◌≡◌, ℕ, ◌<◌, ◌≤◌, List, length, get_or, refl, sym, ap, ◌∙◌, subst, Some, IfSome, arith, rules}
+use Rattle.std.proofs.Common.{◌≡◌, ℕ, ◌<◌, List, length, get_or, refl, sym, ap, ◌∙◌, subst, Some, IfSome, arith, rules}
 use Rattle.std.specs.List.{slice_get}
 use Rattle.std.proofs.lemmas.Option.{slice_get-get_or, slice_get_read, slice_get_within}
 use Rattle.vsd_ast.specs.declared.declarations.Access.TheVariants.{Private}
@@ -8,9 +8,8 @@ use Rattle.vsd_lift.specs.Chain.{envs_of}
 use Rattle.vsd_lift.specs.Lift.{AllFit, Fits, lift_signature}
 use Rattle.vsd_lift.proofs.ChainLemmas.{chain-ladder}
 use Rattle.vsd_roots.specs.Methods.{IsMethod}
-use Rattle.vsd_roots.specs.Slots.{Matches}
 use Rattle.vsd_roots.specs.declared.place.Place.{Place}
-use Rattle.vsd_roots.proofs.MatchLemmas.{SignatureFits, signature_fits}
+use Rattle.vsd_roots.proofs.MatchLemmas.{signature_fits}
 use Rattle.vsd_roots.proofs.TableLemmas.{same_method}
 use Rattle.vsd_roots.proofs.overriding.is_match.Goals as goal
 
@@ -72,19 +71,23 @@ returns c =
     let here = c.requires.levels.found c.args.at.decl some in
     let one = method_read h.decls.now c.args.at named.0 r c.index-h-at.result c.as_slice.result.now named.1.0 c.as_slice.ensures c.index-as_slice-at.is in
     let visible : named.0.access ≡ Private → ⊥ = subst (λ (x : Method). x.access ≡ Private → ⊥) (sym one) (search rules) in
-    let envs = envs_of h.decls.now c.args.chain.now in
-    (λ yes_. (level, record {
-      above = some;
-      stands = here;
-      other = named.0;
-      is_other = named.1.0;
-      name = named.1.1;
-      visible = visible;
-      signature = subst (λ (x : Method). m.signature ≡ lift_signature envs level x.signature) (sym one) (c.same_signature_up.ensures.0 yes_);
-    }),
-    λ w.
-    let at = w.0 in
-    let matches = w.1 in
-    let levels : at ≡ level = sym (c.requires.levels.each at c.args.at.decl matches.stands) in
-    let other = same_method h.decls.now c.args.at c.args.at matches.other named.0 refl refl matches.is_other named.1.0 in
-    c.same_signature_up.ensures.1 (matches.signature ∙ ap (λ (n : ℕ). lift_signature envs n matches.other.signature) levels ∙ ap (λ (x : Method). lift_signature envs level x.signature) (other ∙ one)))
+    let envs = envs_of h.decls.now c.args.chain.now in (
+      λ yes_. (
+        level,
+        record {
+          above = some;
+          stands = here;
+          other = named.0;
+          is_other = named.1.0;
+          name = named.1.1;
+          visible = visible;
+          signature = subst (λ (x : Method). m.signature ≡ lift_signature envs level x.signature) (sym one) (c.same_signature_up.ensures.0 yes_);
+        },
+      ),
+      λ w.
+          let at = w.0 in
+          let matches = w.1 in
+          let levels : at ≡ level = sym (c.requires.levels.each at c.args.at.decl matches.stands) in
+          let other = same_method h.decls.now c.args.at c.args.at matches.other named.0 refl refl matches.is_other named.1.0 in
+          c.same_signature_up.ensures.1 (matches.signature ∙ ap (λ (n : ℕ). lift_signature envs n matches.other.signature) levels ∙ ap (λ (x : Method). lift_signature envs level x.signature) (other ∙ one)),
+    )

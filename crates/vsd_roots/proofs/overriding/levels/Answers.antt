@@ -1,11 +1,10 @@
-use Rattle.std.proofs.Common.{◌≡◌, ℕ, ◌+◌, ◌<◌, ◌≤◌, List, All, length, get_or, set, replicate, length-set, get_or-set_same, get_or-set_other, refl, sym, ap, ◌∙◌, subst, Some, ◌⊎◌, inl, inr, arith, rules}
+use Rattle.std.proofs.Common.{◌≡◌, ℕ, ◌+◌, ◌<◌, List, All, length, get_or, set, replicate, length-set, get_or-set_same, get_or-set_other, sym, ap, ◌∙◌, Some, inl, inr, arith, rules}
 use Rattle.std.specs.List.{slice_get}
 use Rattle.std.proofs.lemmas.Bool.{cases_eq, cases_lt}
 use Rattle.std.proofs.lemmas.List.{get_or-replicate, get_or_past, length-replicate}
 use Rattle.std.proofs.lemmas.List.Elements.{All-get_or}
 use Rattle.std.proofs.lemmas.Option.{slice_get-get_or, slice_get_within}
-use Rattle.vsd_lift.proofs.PlaceLemmas.{All-at}
-use Rattle.vsd_roots.specs.Levels.{AreLevels, IsOnce}
+use Rattle.vsd_roots.specs.Levels.{IsOnce}
 use Rattle.vsd_roots.proofs.overriding.levels.Goals as goal
 
 filled_with : (xs : List ℕ) (x count n : ℕ) → xs ≡ replicate count x → get_or xs n x ≡ x
@@ -31,30 +30,30 @@ put count level chain made declared once inside before =
     record {
       long = length-set made at level ∙ before.long;
       found = λ n some.
-        elim (cases_eq n at) [
-          | inl same ↦ (
-            let read : get_or (set made at level) n 0 ≡ level = ap (λ (k : ℕ). get_or (set made at level) k 0) same ∙ written in
-            ap (slice_get chain) read ∙ here ∙ ap Some (sym same)
-          )
-          | inr other ↦ (
-            let kept : get_or (set made at level) n 0 ≡ get_or made n 0 = get_or-set_other made at n level 0 other in
-            ap (slice_get chain) kept ∙ before.found n (omega arith)
-          )
-        ];
+          elim (cases_eq n at) [
+            | inl same ↦ (
+                let read : get_or (set made at level) n 0 ≡ level = ap (λ (k : ℕ). get_or (set made at level) k 0) same ∙ written in
+                ap (slice_get chain) read ∙ here ∙ ap Some (sym same)
+                )
+            | inr other ↦ (
+                let kept : get_or (set made at level) n 0 ≡ get_or made n 0 = get_or-set_other made at n level 0 other in
+                ap (slice_get chain) kept ∙ before.found n (omega arith)
+                )
+          ];
       each = λ k n below stands.
-        elim (cases_eq n at) [
-          | inl same ↦ (
-            let one : k ≡ level = once k level n stands (here ∙ ap Some (sym same)) in
-            ap (λ (i : ℕ). get_or (set made at level) i 0) same ∙ written ∙ sym one
-          )
-          | inr other ↦ (
-            let lower : k < level = elim (cases_lt k level) [
-              | inl lt ↦ lt
-              | inr ge ↦ absurd (other (let level_is : k ≡ level = omega arith in let both = sym stands ∙ ap (slice_get chain) level_is ∙ here in cc))
-            ] in
-            get_or-set_other made at n level 0 other ∙ before.each k n lower stands
-          )
-        ];
+          elim (cases_eq n at) [
+            | inl same ↦ (
+                let one : k ≡ level = once k level n stands (here ∙ ap Some (sym same)) in
+                ap (λ (i : ℕ). get_or (set made at level) i 0) same ∙ written ∙ sym one
+                )
+            | inr other ↦ (
+                let lower : k < level = elim (cases_lt k level) [
+                  | inl lt ↦ lt
+                  | inr ge ↦ absurd (other (let level_is : k ≡ level = omega arith in let both = sym stands ∙ ap (slice_get chain) level_is ∙ here in cc))
+                ] in
+                get_or-set_other made at n level 0 other ∙ before.each k n lower stands
+                )
+          ];
     }
 
 pub index_mut-requires : goal.index_mut-requires

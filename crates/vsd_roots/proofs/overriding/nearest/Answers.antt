@@ -1,11 +1,9 @@
-use Rattle.std.proofs.Common.{◌≡◌, ℕ, ◌+◌, ◌<◌, ◌≤◌, List, Option, Some, None, refl, sym, ap, ◌∙◌, subst, true, false, IsTrue, IsSome, IsSomeAnd, arith}
+use Rattle.std.proofs.Common.{◌≡◌, ℕ, ◌<◌, List, Option, Some, None, sym, ◌∙◌, subst, arith}
 use Rattle.std.proofs.lemmas.Bool.{false≢true}
 use Rattle.vsd_ast.specs.declared.declarations.Decl.{Decl}
 use Rattle.vsd_ast.specs.declared.declarations.Method.{Method}
 use Rattle.vsd_roots.specs.Levels.{IsStart}
-use Rattle.vsd_roots.specs.Methods.{IsMethod, Tabulates, entry}
-use Rattle.vsd_roots.specs.Order.{IsLatest, IsLink, method_rank}
-use Rattle.vsd_roots.specs.Slots.{Matches}
+use Rattle.vsd_roots.specs.Order.{IsLink}
 use Rattle.vsd_roots.specs.declared.place.Place.{Place}
 use Rattle.vsd_roots.proofs.MatchLemmas.{nearest_here, nearest_later, nearest_none}
 use Rattle.vsd_roots.proofs.TableLemmas.{entry_has, some_entry}

@@ -1,4 +1,4 @@
-use Rattle.std.proofs.Common.{◌≡◌, ◌≤◌, length, arith}
+use Rattle.std.proofs.Common.{arith}
 use Rattle.vsd_roots.specs.Slots.{IsOverridden}
 use Rattle.vsd_roots.proofs.TableLemmas.{first-end, first-push}
 use Rattle.vsd_roots.proofs.overriding.overridden.Goals as goal

@@ -1,14 +1,12 @@
-use Rattle.std.proofs.Common.{◌≡◌, ℕ, ◌<◌, List, Option, Some, None, MatchOption, refl, sym, ap, ◌∙◌, inl, inr, true, false}
+use Rattle.std.proofs.Common.{◌≡◌, ℕ, List, Option, Some, None, MatchOption, inl, inr, false}
 use Rattle.vsd_ast.specs.declared.declarations.Decl.{Decl}
 use Rattle.vsd_ast.specs.declared.declarations.Method.{Method}
 use Rattle.vsd_lift.specs.Chain.{IsChain}
-use Rattle.vsd_lift.specs.Settled.{IsSettled}
-use Rattle.vsd_roots.specs.Levels.{IsStart, IsUpward}
 use Rattle.vsd_roots.specs.Methods.{IsMethod}
-use Rattle.vsd_roots.specs.Order.{IsLatest, IsLink, method_rank}
+use Rattle.vsd_roots.specs.Order.{IsLink}
 use Rattle.vsd_roots.specs.Slots.{HasMatch, IsNearest, IsOverridden}
 use Rattle.vsd_roots.specs.declared.place.Place.{Place}
-use Rattle.vsd_roots.proofs.MatchLemmas.{match_below, start_of_link}
+use Rattle.vsd_roots.proofs.MatchLemmas.{start_of_link}
 use Rattle.vsd_roots.proofs.TableLemmas.{entry_has, method_within, some_entry}
 use Rattle.vsd_roots.proofs.overriding.overridden_by.Goals as goal
 

@@ -1,12 +1,8 @@
-use Rattle.std.proofs.Common.{◌≡◌, ℕ, ◌<◌, ◌≤◌, List, length, get_or, refl, sym, ap, ◌∙◌, subst, arith, Option}
-use Rattle.std.specs.List.{slice_get}
+use Rattle.std.proofs.Common.{ℕ, ◌≤◌, List, length, get_or, sym, ap, subst, arith}
 use Rattle.std.proofs.lemmas.Option.{slice_get-get_or}
-use Rattle.vsd_ast.specs.declared.declarations.Decl.{Decl}
 use Rattle.vsd_ast.specs.declared.declarations.Method.{Method}
 use Rattle.vsd_lift.specs.Chain.{IsChain}
 use Rattle.vsd_lift.proofs.ChainLemmas.{chain-distinct}
-use Rattle.vsd_roots.specs.Levels.{IsOnce}
-use Rattle.vsd_roots.specs.Methods.{IsMethod}
 use Rattle.vsd_roots.specs.Slots.{IsOverridden}
 use Rattle.vsd_roots.specs.declared.place.Place.{Place}
 use Rattle.vsd_roots.proofs.MatchLemmas.{same_place}
@@ -28,8 +24,8 @@ loop-method-preserved c =
     let ds = c.args.h.now.decls.now in
     let x = c.overridden_by-above.result in
     part-push ds (IsOverridden ds) c.args.at c.loop-method.method c.loop-method.row c.push.new.self x c.in_ok-push.ensures.ok
-      (λ p m decl method is. subst (λ (q : Place). IsOverridden ds q x) (sym (same_place p (record { decl = c.args.at; method = c.loop-method.method }) decl method)) c.overridden_by-above.ensures)
-      c.loop-method.invariant
+    (λ p m decl method is. subst (λ (q : Place). IsOverridden ds q x) (sym (same_place p (record { decl = c.args.at; method = c.loop-method.method }) decl method)) c.overridden_by-above.ensures)
+    c.loop-method.invariant
 
 pub returns : goal.returns
 returns c =

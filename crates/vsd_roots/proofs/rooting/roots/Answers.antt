@@ -1,4 +1,4 @@
-use Rattle.std.proofs.Common.{◌≡◌, ℕ, ◌+◌, ◌*◌, ◌<◌, ◌≤◌, arith}
+use Rattle.std.proofs.Common.{◌+◌, ◌*◌, ◌≤◌, arith}
 use Rattle.vsd_roots.specs.Slots.{IsRoot}
 use Rattle.vsd_roots.proofs.TableLemmas.{all_below, below-end}
 use Rattle.vsd_roots.proofs.rooting.roots.Goals as goal

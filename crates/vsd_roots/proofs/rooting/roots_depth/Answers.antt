@@ -1,4 +1,4 @@
-use Rattle.std.proofs.Common.{◌≡◌, ℕ, ◌+◌, ◌*◌, ◌<◌, ◌≤◌, length, get_or, sym, ap, ◌∙◌, subst, arith}
+use Rattle.std.proofs.Common.{◌≡◌, ◌+◌, ◌*◌, ◌<◌, ◌≤◌, length, get_or, sym, ◌∙◌, subst, arith}
 use Rattle.vsd_roots.specs.Order.{TabulatesBelow, rank}
 use Rattle.vsd_roots.specs.Slots.{IsRoot}
 use Rattle.vsd_roots.proofs.TableLemmas.{below-set, below-skip, depth_done, other_depth}

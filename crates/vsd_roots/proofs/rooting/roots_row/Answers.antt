@@ -1,12 +1,11 @@
-use Rattle.std.proofs.Common.{◌≡◌, ℕ, ◌<◌, ◌≤◌, List, length, get_or, refl, sym, ap, ◌∙◌, subst, Option, Some, None, IfSome, IsSome, IsSomeAnd, inl, inr, arith}
-use Rattle.std.specs.List.{slice_get}
+use Rattle.std.proofs.Common.{◌≡◌, ℕ, ◌<◌, List, length, get_or, refl, sym, subst, Option, Some, None, IfSome, IsSome, IsSomeAnd, inl, inr, arith}
 use Rattle.std.proofs.lemmas.Option.{slice_get-get_or, slice_get_cases}
 use Rattle.vsd_ast.specs.declared.declarations.Decl.{Decl}
 use Rattle.vsd_ast.specs.declared.declarations.Method.{Method}
 use Rattle.vsd_lift.specs.Settled.{IsSettled}
-use Rattle.vsd_roots.specs.Methods.{IsMethod, Tabulates, entry}
+use Rattle.vsd_roots.specs.Methods.{IsMethod, entry}
 use Rattle.vsd_roots.specs.Order.{TabulatesBelow, rank}
-use Rattle.vsd_roots.specs.Slots.{IsOverridden, IsRoot, Matches, Overrides}
+use Rattle.vsd_roots.specs.Slots.{IsOverridden, IsRoot, Overrides}
 use Rattle.vsd_roots.specs.declared.place.Place.{Place}
 use Rattle.vsd_roots.proofs.MatchLemmas.{same_place}
 use Rattle.vsd_roots.proofs.RootLemmas.{overrides_lower, root_further, root_own}
@@ -60,8 +59,8 @@ loop-method-preserved c =
     let is = entry_has (entry c.args.overridden.now p) c.entry_of-above.result (IsOverridden ds p) c.entry_of-above.ensures (c.requires.overridden.each p m.0 m.1) in
     let root = above_root ds h.places.now h.depths.now c.args.roots.now p c.root_above.result c.entry_of-above.result c.requires.settled c.requires.filled is c.root_above.ensures.own c.root_above.ensures.same in
     part-push ds (IsRoot ds) c.args.at c.loop-method.method c.loop-method.row c.push.new.self c.root_above.result c.in_ok-push.ensures.ok
-      (λ q n decl method other. subst (λ (r : Place). IsRoot ds r c.root_above.result) (sym (same_place q p decl method)) root)
-      c.loop-method.invariant
+    (λ q n decl method other. subst (λ (r : Place). IsRoot ds r c.root_above.result) (sym (same_place q p decl method)) root)
+    c.loop-method.invariant
 
 pub returns : goal.returns
 returns c =

@@ -1,4 +1,4 @@
-use Rattle.std.proofs.Common.{◌≡◌, ℕ, ◌<◌, ◌≤◌, List, [], length, get_or, refl, sym, ap, ◌∙◌, subst, Some, Option, IsSome, inl, inr, arith}
+use Rattle.std.proofs.Common.{◌≡◌, ℕ, ◌<◌, List, [], length, get_or, refl, sym, ap, ◌∙◌, subst, Option, IsSome, inl, inr, arith}
 use Rattle.std.specs.List.{slice_get}
 use Rattle.std.proofs.lemmas.Bool.{false≢true}
 use Rattle.std.proofs.lemmas.List.{get_or_default, get_or_past}
@@ -19,10 +19,10 @@ row_is {A} table at row some is =
     elim (cases_lt at.decl (length table)) [
       | inl lt ↦ is ∙ get_or_default table at.decl row [] lt
       | inr ge ↦ (
-        let none : List A = [] in
-        let P : List A → Type 0 = λ l. IsSome (slice_get l at.method) in
-        absurd (false≢true (subst P (get_or_past table at.decl none ge) some))
-      )
+          let none : List A = [] in
+          let P : List A → Type 0 = λ l. IsSome (slice_get l at.method) in
+          absurd (false≢true (subst P (get_or_past table at.decl none ge) some))
+          )
     ]
 
 within_row : {A : Type 0} (table : List (List A)) (at : Place) (row read : List A) → IsSome (entry table at) → row ≡ get_or table at.decl row → read ≡ row → at.method < length read

@@ -1,4 +1,4 @@
-use Rattle.std.proofs.Common.{◌≡◌, sym, ap, ◌∙◌}
+use Rattle.std.proofs.Common.{ap, ◌∙◌}
 use Rattle.std.specs.List.{slice_get}
 use Rattle.vsd_roots.proofs.VarianceLemmas.{place_of-get}
 use Rattle.vsd_roots.proofs.variance.declared_as.Goals as goal

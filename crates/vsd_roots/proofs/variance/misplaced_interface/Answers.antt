@@ -1,4 +1,4 @@
-use Rattle.std.proofs.Common.{◌≡◌, ◌<◌, ◌≤◌, List, length, get_or, not, false, sym, ap, ◌∙◌, subst, arith}
+use Rattle.std.proofs.Common.{◌≡◌, List, get_or, not, false, ap, ◌∙◌, subst, arith}
 use Rattle.std.proofs.lemmas.List.{get_or_default}
 use Rattle.std.proofs.lemmas.Option.{slice_get-get_or}
 use Rattle.vsd_ast.specs.declared.declarations.Located.{Located}
@@ -22,7 +22,7 @@ loop-i-preserved c =
     let x : Located = get_or all i c.index-interfaces-i-in-loop-i.result in
     let here = slice_get-get_or all i c.index-interfaces-i-in-loop-i.result (omega arith) in
     IsLeast-next all (InterfaceMisplaced ds own) i x c.loop-i.found c.shown.result c.earlier-found.result c.earlier-found.ensures here c.loop-i.invariant
-        (IsLeast-shown (is_valid ds own x.term Positive ≡ false) (not c.may_stand_at-valid.result) x.line c.shown.result c.shown.ensures (not-decides c.may_stand_at-valid.result (is_valid ds own x.term Positive) (c.may_stand_at-valid.ensures ∙ ap (λ (y : Located). is_valid ds own y.term Positive) (get_or_default all i c.index-interfaces-i.result c.index-interfaces-i-in-loop-i.result (omega arith)))))
+    (IsLeast-shown (is_valid ds own x.term Positive ≡ false) (not c.may_stand_at-valid.result) x.line c.shown.result c.shown.ensures (not-decides c.may_stand_at-valid.result (is_valid ds own x.term Positive) (c.may_stand_at-valid.ensures ∙ ap (λ (y : Located). is_valid ds own y.term Positive) (get_or_default all i c.index-interfaces-i.result c.index-interfaces-i-in-loop-i.result (omega arith)))))
 
 pub returns : goal.returns
 returns c =

@@ -1,4 +1,4 @@
-use Rattle.std.proofs.Common.{◌≡◌, ◌<◌, ◌≤◌, List, length, get_or, not, false, sym, ap, ◌∙◌, subst, arith}
+use Rattle.std.proofs.Common.{◌≡◌, List, length, get_or, not, false, sym, ap, ◌∙◌, subst, arith}
 use Rattle.std.proofs.lemmas.List.{get_or_default}
 use Rattle.std.proofs.lemmas.Option.{slice_get-get_or}
 use Rattle.std.proofs.lemmas.List.Elements.{All-get_or}
@@ -33,7 +33,7 @@ loop-i-preserved c =
     let x : Method = get_or all i c.index-methods-i-in-loop-i.result in
     let here = slice_get-get_or all i c.index-methods-i-in-loop-i.result (omega arith) in
     IsLeast-next all (MethodMisplaced ds own) i x c.loop-i.found c.shown.result c.earlier-found.result c.earlier-found.ensures here c.loop-i.invariant
-        (IsLeast-shown (signature_valid ds own x.signature ≡ false) (not c.is_signature_valid-valid.result) x.line c.shown.result c.shown.ensures (not-decides c.is_signature_valid-valid.result (signature_valid ds own x.signature) (c.is_signature_valid-valid.ensures ∙ ap (λ (y : Method). signature_valid ds own y.signature) (get_or_default all i c.index-methods-i.result c.index-methods-i-in-loop-i.result (omega arith)))))
+    (IsLeast-shown (signature_valid ds own x.signature ≡ false) (not c.is_signature_valid-valid.result) x.line c.shown.result c.shown.ensures (not-decides c.is_signature_valid-valid.result (signature_valid ds own x.signature) (c.is_signature_valid-valid.ensures ∙ ap (λ (y : Method). signature_valid ds own y.signature) (get_or_default all i c.index-methods-i.result c.index-methods-i-in-loop-i.result (omega arith)))))
 
 pub returns : goal.returns
 returns c =
