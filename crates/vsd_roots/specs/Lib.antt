@@ -1,0 +1,7 @@
+pub mod Bodies
+pub mod Final
+pub mod Levels
+pub mod Methods
+pub mod Order
+pub mod Slots
+pub mod Variance
