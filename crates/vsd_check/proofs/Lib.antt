@@ -1,2 +1,4 @@
 pub mod EarliestLaws
+pub mod PassLaws
+pub mod SettledLaws
 pub mod TableLemmas

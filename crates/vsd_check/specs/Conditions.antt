@@ -1,5 +1,5 @@
 -- The conditions that lawful declarations don't show.
-use Rattle.std.specs.Prelude.{◌≡◌, ℕ}
+use Rattle.std.specs.Prelude.{◌≡◌, ℕ, ◌<◌}
 use Rattle.vsd_least.specs.Least.{AtSome}
 use Rattle.vsd_ast.specs.declared.declarations.Decls.{Decls}
 use Rattle.vsd_lawful.specs.Twice.{ShowsTwice}
@@ -7,6 +7,13 @@ use Rattle.vsd_lawful.specs.Types.{ShowsUnknown, ShowsArity}
 use Rattle.vsd_lawful.specs.Variant.{ShowsVariantClass}
 use Rattle.vsd_hierarchy.specs.Cycles.{ShowsCycle}
 use Rattle.vsd_hierarchy.specs.Kinds.{ShowsBadBase, ShowsBadInterface}
+use Rattle.vsd_roots.specs.Bodies.{ShowsAbstract}
+use Rattle.vsd_roots.specs.Final.{ShowsFinal}
+use Rattle.vsd_roots.specs.Variance.{ShowsMisplaced}
+use Rattle.vsd_check.specs.Refusals.{ComesFirst, pass_of}
+use Rattle.vsd_check.specs.declared.refusal.Cause.{Cause}
+use Rattle.vsd_check.specs.declared.refusal.Cause.TheVariants.{Twice, UnknownType, Arity, Cycle, BadBase, BadInterface, VarianceMisplaced, VariantClass, OverridesFinal, AbstractInConcrete, OverrideUnknown, OverrideTwice}
+use Rattle.vsd_check.specs.declared.refusal.Shown.{Shown}
 
 module _ (d : Decls) where
   -- the lines at which some declaration shows a condition
@@ -30,3 +37,44 @@ module _ (d : Decls) where
 
   abbrev pub BadInterfaceAt : ℕ → Type 0
   BadInterfaceAt = AtSome d.list (λ _. ShowsBadInterface d.list)
+
+  abbrev pub MisplacedAt : ℕ → Type 0
+  MisplacedAt = AtSome d.list (λ _. ShowsMisplaced d.list)
+
+  abbrev pub FinalOverriddenAt : ℕ → Type 0
+  FinalOverriddenAt = AtSome d.list (ShowsFinal d.list)
+
+  abbrev pub AbstractAt : ℕ → Type 0
+  AbstractAt = AtSome d.list (ShowsAbstract d.list)
+
+  -- the cause shows at this line
+  abbrev pub Shows : Cause → ℕ → Type 0
+  Shows Twice = TwiceAt
+  Shows UnknownType = UnknownAt
+  Shows Arity = ArityAt
+  Shows Cycle = CycleAt
+  Shows BadBase = BadBaseAt
+  Shows BadInterface = BadInterfaceAt
+  Shows VarianceMisplaced = MisplacedAt
+  Shows VariantClass = VariantAt
+  Shows OverridesFinal = FinalOverriddenAt
+  Shows AbstractInConcrete = AbstractAt
+  Shows OverrideUnknown = λ line. ⊥
+  Shows OverrideTwice = λ line. ⊥
+
+  -- it is a cause of this pass, and shows
+  abbrev pub ShowsIn : ℕ → Shown → Type 0
+  ShowsIn pass s = (pass_of s.cause ≡ pass) × Shows s.cause s.line
+
+  -- no cause of this pass shows
+  abbrev pub NoneIn : ℕ → Type 0
+  NoneIn pass = (s : Shown) → ¬ ShowsIn pass s
+
+  -- it shows, and whatever shows comes no earlier
+  pub record IsEarliest (s : Shown) : Type 0 where
+    pub shows : Shows s.cause s.line
+    pub earliest : (t : Shown) → Shows t.cause t.line → ComesFirst s t
+
+  -- no cause shows at any line
+  abbrev pub AreLawful : Type 0
+  AreLawful = (cause : Cause) (line : ℕ) → ¬ Shows cause line

@@ -6,6 +6,7 @@ mod earliest;
 mod lawful;
 
 mod refusal;
+mod settling;
 mod shape;
 
 pub use checked::Checked;

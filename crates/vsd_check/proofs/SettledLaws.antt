@@ -1,0 +1,81 @@
+-- What passes that show nothing tell.
+use Rattle.std.proofs.Common.{◌≡◌, ℕ, ◌<◌, ◌≤◌, List, length, get_or, Option, Some, None, ◌⊎◌, inl, inr, refl, sym, ap, subst, ◌∙◌, arith, Contains}
+use Rattle.std.specs.List.{slice_get}
+use Rattle.std.proofs.lemmas.Bool.{cases_order}
+use Rattle.std.proofs.lemmas.Option.{slice_get-get_or}
+use Rattle.vsd_ast.specs.Hierarchy.{above, AreDepths, IsHierarchy}
+use Rattle.vsd_ast.specs.Lookup.{head_of}
+use Rattle.vsd_ast.specs.WellFormed.{AreWellFormed}
+use Rattle.vsd_ast.specs.declared.declarations.Decl.{Decl}
+use Rattle.vsd_ast.specs.declared.declarations.Decls.{Decls}
+use Rattle.vsd_ast.specs.declared.declarations.Located.{Located}
+use Rattle.vsd_graph.specs.Graph.{IsCyclic}
+use Rattle.vsd_hierarchy.specs.Cycles.{graph_of}
+use Rattle.vsd_hierarchy.specs.Kinds.{HasBadBase, IsNoInterface}
+use Rattle.vsd_hierarchy.proofs.CycleLemmas.{cycle_shows}
+use Rattle.vsd_hierarchy.proofs.PlacedLemmas.{IsHierarchy-none}
+use Rattle.vsd_check.specs.Conditions.{Shows, ShowsIn, NoneIn, IsEarliest}
+use Rattle.vsd_check.specs.Earliest.{IsFirst}
+use Rattle.vsd_check.specs.Refusals.{pass_of, ComesFirst}
+use Rattle.vsd_check.specs.declared.refusal.Cause.{Cause}
+use Rattle.vsd_check.specs.declared.refusal.Cause.TheVariants.{Twice, UnknownType, Arity, Cycle, BadBase, BadInterface, VarianceMisplaced, VariantClass, OverridesFinal, AbstractInConcrete, OverrideUnknown, OverrideTwice}
+use Rattle.vsd_check.specs.declared.refusal.Shown.{Shown}
+
+module _ (d : Decls) where
+  pub none_in : (pass : ℕ) → IsFirst (ShowsIn d pass) None → NoneIn d pass
+  none_in pass h s w = h.first s w
+
+  silent : (c : Cause) → NoneIn d (pass_of c) → (line : ℕ) → ¬ Shows d c line
+  silent c none line w = none (record { line = line; cause = c }) (refl, w)
+
+  good_base : NoneIn d 2 → (i : ℕ) (x : Decl) → slice_get d.list i ≡ Some x → ¬ HasBadBase d.list x
+  good_base none i x here bad = silent BadBase none x.line (record { place = i; element = x; there = here; shows = (bad, refl) })
+
+  good_interfaces : NoneIn d 2 → (i : ℕ) (x : Decl) → slice_get d.list i ≡ Some x → (l : Located) → Contains x.interfaces l → ¬ IsNoInterface d.list (head_of l.term)
+  good_interfaces none i x here l among bad =
+      let there : slice_get x.interfaces among.0 ≡ Some l = slice_get-get_or x.interfaces among.0 l among.1 ∙ ap Some among.2 in
+      silent BadInterface none l.line (record { place = i; element = x; there = here; shows = record { place = among.0; element = l; there = there; shows = (bad, refl) } })
+
+  -- no walk upward comes back
+  pub not_cyclic : NoneIn d 2 → IsCyclic (graph_of d.list above) → ⊥
+  not_cyclic none cyclic =
+      let shown = cycle_shows d.list (good_base none) (good_interfaces none) cyclic in
+      silent Cycle none shown.0 shown.1
+
+  pub settled : AreWellFormed d → NoneIn d 1 → NoneIn d 2 → (depths : List ℕ) → AreDepths d.list depths → IsHierarchy d.list depths
+  settled well first second depths are =
+      IsHierarchy-none d well (silent Twice first) (silent UnknownType first) (silent Arity first) (silent BadBase second) (silent BadInterface second) depths are
+
+  -- what shows first in a pass after passes that show nothing is the earliest
+  pub earliest_in : (pass : ℕ) (s : Shown) → IsFirst (ShowsIn d pass) (Some s) → ((earlier : ℕ) → earlier < pass → NoneIn d earlier) → IsEarliest d s
+  earliest_in pass s h before = record {
+    shows = h.shows.1;
+    earliest = λ t w. elim (cases_order (pass_of s.cause) (pass_of t.cause)) [
+      inl same ↦ inr (same, h.first t (sym same ∙ h.shows.0, w))
+      | inr other ↦ elim other [
+        inl less ↦ inl less
+        | inr more ↦ absurd (before (pass_of t.cause) (omega (arith, h.shows.0)) t (refl, w))
+      ]
+    ];
+  }
+
+  pass_some : (c : Cause) → 0 < pass_of c
+  pass_some Twice = omega arith
+  pass_some UnknownType = omega arith
+  pass_some Arity = omega arith
+  pass_some Cycle = omega arith
+  pass_some BadBase = omega arith
+  pass_some BadInterface = omega arith
+  pass_some VarianceMisplaced = omega arith
+  pass_some VariantClass = omega arith
+  pass_some OverridesFinal = omega arith
+  pass_some AbstractInConcrete = omega arith
+  pass_some OverrideUnknown = omega arith
+  pass_some OverrideTwice = omega arith
+
+  pub none_before_first : (earlier : ℕ) → earlier < 1 → NoneIn d earlier
+  none_before_first earlier less s w = omega (arith, pass_some s.cause, w.0)
+
+  pub none_before_second : NoneIn d 1 → (earlier : ℕ) → earlier < 2 → NoneIn d earlier
+  none_before_second first earlier less s w =
+      let is : pass_of s.cause ≡ 1 = omega (arith, pass_some s.cause, w.0) in first s (is, w.1)
