@@ -5,6 +5,7 @@ mod checked;
 mod earliest;
 mod lawful;
 
+mod overriding;
 mod refusal;
 mod settling;
 mod shape;

@@ -1,0 +1,62 @@
+//! The third pass: variance, and what methods override.
+ghost use Rattle.std.specs.Prelude.{◌≡◌, IfOk};
+ghost use Rattle.vsd_ast.specs.WellFormed.{AreWellFormed};
+ghost use Rattle.vsd_least.specs.Least.{IsLeast};
+ghost use Rattle.vsd_lift.specs.Settled.{IsSettled};
+ghost use Rattle.vsd_roots.specs.Bodies.{Marks};
+ghost use Rattle.vsd_roots.specs.Methods.{Tabulates};
+ghost use Rattle.vsd_roots.specs.Slots.{IsOverridden, IsRoot};
+ghost use Rattle.vsd_check.specs.Conditions.{MisplacedAt, FinalOverriddenAt, AbstractAt, ShowsIn};
+ghost use Rattle.vsd_check.specs.Earliest.{IsFirst};
+
+use crate::earliest::sooner;
+use crate::refusal::{Cause, Shown};
+use sqlite_items::Items;
+use std::alloc::{AllocError, Global};
+use vsd_ast::Decls;
+use vsd_least::earlier;
+use vsd_lift::Hierarchy;
+use vsd_roots::{Place, abstract_bodies, abstract_in_concrete, misplaced_variance, overridden, overrides_final, roots};
+
+/// The first line of each condition on variance and on the methods of classes.
+#[derive(Clone, Copy)]
+struct Overriding {
+    misplaced: Option<u32>,
+    last: Option<u32>,
+    left: Option<u32>,
+}
+
+fn overriding_of(
+    decls: &Decls,
+    h: &Hierarchy<'_>,
+    overridden: &[Items<Option<Place>>],
+    marks: &[bool],
+) -> Overriding
+    requires scope { h.now.decls.now ≡ decls.now.list }
+    requires settled { IsSettled h.now.decls.now h.now.places.now h.now.depths.now }
+    requires overridden { Tabulates h.now.decls.now (IsOverridden h.now.decls.now) overridden.now }
+    requires marks { Marks h.now.decls.now marks.now }
+    ensures misplaced { IsLeast (MisplacedAt decls.now) result.misplaced }
+    ensures last { IsLeast (FinalOverriddenAt decls.now) result.last }
+    ensures left { IsLeast (AbstractAt decls.now) result.left }
+{
+    let mut found = Overriding {
+        misplaced: None,
+        last: None,
+        left: None,
+    };
+    for (place, decl) in h.decls.iter().enumerate() {
+        let misplaced_here = misplaced_variance(h, decl);
+        let misplaced = earlier(found.misplaced, misplaced_here);
+        let last_here = overrides_final(h, overridden, place, decl);
+        let last = earlier(found.last, last_here);
+        let left_here = abstract_in_concrete(h, marks, place, decl);
+        let left = earlier(found.left, left_here);
+        found = Overriding {
+            misplaced,
+            last,
+            left,
+        };
+    }
+    found
+}
