@@ -3,11 +3,15 @@ ghost use Rattle.std.specs.Prelude.{◌≡◌, ◌<◌, length, slice_index_or};
 ghost use Rattle.vsd_ast.specs.Hierarchy.{IsHierarchy};
 ghost use Rattle.vsd_ast.specs.Lookup.{place_of};
 ghost use Rattle.vsd_ast.specs.WellFormed.{AreWellFormed};
+ghost use Rattle.vsd_ast.specs.declared.declarations.Method.{Method};
 ghost use Rattle.vsd_check.specs.Checked.{decls_of, depths_of};
+ghost use Rattle.vsd_roots.specs.Methods.{IsMethod};
+ghost use Rattle.vsd_roots.specs.Slots.{IsRoot};
 
 use sqlite_items::Items;
 use std::marker::Model;
 use vsd_ast::Decls;
+use vsd_roots::{Place, entry_of};
 
 /// Lawful declarations, with the depth of each: one more than the greatest of its base and its interfaces.
 #[derive(Debug, Drop)]
@@ -15,6 +19,7 @@ pub struct Checked {
     pub(crate) decls: Decls,
     pub(crate) places: Items<u16>,
     pub(crate) depths: Items<u16>,
+    pub(crate) roots: Items<Items<Place>>,
 }
 
 impl Model for Checked {
@@ -23,6 +28,8 @@ impl Model for Checked {
     ghost use Rattle.vsd_ast.specs.WellFormed.{AreWellFormed};
     ghost use Rattle.vsd_check.specs.Value.{Value as Told};
     ghost use Rattle.vsd_lawful.specs.Index.{IsIndex};
+    ghost use Rattle.vsd_roots.specs.Methods.{Tabulates};
+    ghost use Rattle.vsd_roots.specs.Slots.{IsRoot};
     ghost use Rattle.vsd_terms.specs.contracts.term.Term as term;
 
     ghost Value = { Told };
@@ -31,7 +38,8 @@ impl Model for Checked {
 
     ghost view = { λ c. record { decls = c.decls; depths = c.depths } };
 
-    ghost invariant = { λ c. AreWellFormed c.decls × IsHierarchy c.decls.list c.depths × IsIndex c.decls.list c.places };
+    ghost invariant = { λ c. AreWellFormed c.decls × IsHierarchy c.decls.list c.depths × IsIndex c.decls.list c.places
+        × Tabulates c.decls.list (IsRoot c.decls.list) c.roots };
 }
 
 impl Checked {
@@ -64,5 +72,19 @@ impl Checked {
         ensures hierarchy { IsHierarchy (decls_of self.now).list (depths_of self.now) }
     {
         self.depths.as_slice()[decl as usize]
+    }
+
+    /// The root of a virtual method: the declaration and the place of the method that started the slot that it fills
+    /// (ECMA-335, II.9.9, II.10.3.1). Takes no memory.
+    pub fn root(&self, decl: u16, method: u16) -> (u16, u16)
+        // The declaration is there, and has a virtual method at this place.
+        requires { (m : Method) × IsMethod (decls_of self.now).list (record { decl = decl; method = method }) m }
+        ensures root { IsRoot (decls_of self.now).list (record { decl = decl; method = method })
+            (record { decl = result.0; method = result.1 }) }
+        ensures well_formed { AreWellFormed (decls_of self.now) }
+        ensures hierarchy { IsHierarchy (decls_of self.now).list (depths_of self.now) }
+    {
+        let root = entry_of(self.roots.as_slice(), Place { decl, method });
+        (root.decl, root.method)
     }
 }

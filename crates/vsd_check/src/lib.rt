@@ -2,6 +2,7 @@
 #![tactic(auto)]
 
 mod checked;
+mod checking;
 mod earliest;
 mod lawful;
 
@@ -11,4 +12,5 @@ mod settling;
 mod shape;
 
 pub use checked::Checked;
+pub use checking::check;
 pub use refusal::{Cause, CheckError, Shown};

@@ -1,18 +1,18 @@
 //! The third pass: variance, and what methods override.
-ghost use Rattle.std.specs.Prelude.{◌≡◌, IfOk};
-ghost use Rattle.vsd_ast.specs.WellFormed.{AreWellFormed};
+ghost use Rattle.std.specs.Prelude.{◌≡◌, IfErr, IfOk, IfSome, OnOk};
 ghost use Rattle.vsd_least.specs.Least.{IsLeast};
 ghost use Rattle.vsd_lift.specs.Settled.{IsSettled};
 ghost use Rattle.vsd_roots.specs.Bodies.{Marks};
 ghost use Rattle.vsd_roots.specs.Methods.{Tabulates};
 ghost use Rattle.vsd_roots.specs.Slots.{IsOverridden, IsRoot};
-ghost use Rattle.vsd_check.specs.Conditions.{MisplacedAt, FinalOverriddenAt, AbstractAt, ShowsIn};
+ghost use Rattle.vsd_check.specs.Conditions.{MisplacedAt, FinalOverriddenAt, AbstractAt, IsEarliest, NoneIn, ShowsIn};
 ghost use Rattle.vsd_check.specs.Earliest.{IsFirst};
+ghost use Rattle.vsd_check.specs.Refusals.{refusal_of};
 
 use crate::earliest::sooner;
-use crate::refusal::{Cause, Shown};
+use crate::refusal::{Cause, CheckError, Shown, refusal};
 use sqlite_items::Items;
-use std::alloc::{AllocError, Global};
+use std::alloc::Global;
 use vsd_ast::Decls;
 use vsd_least::earlier;
 use vsd_lift::Hierarchy;
@@ -59,4 +59,45 @@ fn overriding_of(
         };
     }
     found
+}
+
+fn third_shown(
+    decls: &Decls,
+    h: &Hierarchy<'_>,
+    overridden: &[Items<Option<Place>>],
+    marks: &[bool],
+) -> Option<Shown>
+    requires scope { h.now.decls.now ≡ decls.now.list }
+    requires settled { IsSettled h.now.decls.now h.now.places.now h.now.depths.now }
+    requires overridden { Tabulates h.now.decls.now (IsOverridden h.now.decls.now) overridden.now }
+    requires marks { Marks h.now.decls.now marks.now }
+    ensures { IsFirst (ShowsIn decls.now 3) result }
+{
+    let found = overriding_of(decls, h, overridden, marks);
+    let misplaced = sooner(None, Cause::VarianceMisplaced, found.misplaced);
+    let last = sooner(misplaced, Cause::OverridesFinal, found.last);
+    sooner(last, Cause::AbstractInConcrete, found.left)
+}
+
+/// The roots of the methods of declarations that show no cause of the third pass.
+pub(crate) fn root_methods(
+    alloc: Global,
+    decls: &Decls,
+    h: &Hierarchy<'_>,
+) -> Result<Items<Items<Place>>, CheckError>
+    requires scope { h.now.decls.now ≡ decls.now.list }
+    requires settled { IsSettled h.now.decls.now h.now.places.now h.now.depths.now }
+    requires first { NoneIn decls.now 1 }
+    requires second { NoneIn decls.now 2 }
+    ensures third { OnOk result (NoneIn decls.now 3) }
+    ensures roots { IfOk result (Tabulates h.now.decls.now (IsRoot h.now.decls.now)) }
+    ensures refused { IfErr result (λ e. IfSome (refusal_of e) (IsEarliest decls.now)) }
+{
+    let overridden = overridden(alloc, h)?;
+    let rooted = roots(alloc, h, overridden.as_slice())?;
+    let marks = abstract_bodies(alloc, h, rooted.as_slice())?;
+    if let Some(shown) = third_shown(decls, h, overridden.as_slice(), &marks) {
+        return Err(refusal(shown));
+    }
+    Ok(rooted)
 }
