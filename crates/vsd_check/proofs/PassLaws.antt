@@ -2,11 +2,11 @@
 use Rattle.std.proofs.Common.{◌≡◌, ℕ, ◌<◌, ◌≤◌, Option, Some, None, ◌⊎◌, inl, inr, refl, sym, ap, subst, ◌∙◌, arith}
 use Rattle.vsd_ast.specs.declared.declarations.Decls.{Decls}
 use Rattle.vsd_least.specs.Least.{IsLeast}
-use Rattle.vsd_check.specs.Conditions.{TwiceAt, UnknownAt, ArityAt, VariantAt, CycleAt, BadBaseAt, BadInterfaceAt, MisplacedAt, FinalOverriddenAt, AbstractAt, Shows, ShowsIn}
+use Rattle.vsd_check.specs.Conditions.{TwiceAt, UnknownAt, ArityAt, CycleAt, BadBaseAt, BadInterfaceAt, MisplacedAt, VariantAt, FinalOverriddenAt, AbstractAt, Shows, ShowsIn}
 use Rattle.vsd_check.specs.Earliest.{IsFirst, sooner_of}
 use Rattle.vsd_check.specs.Refusals.{number_of, pass_of}
 use Rattle.vsd_check.specs.declared.refusal.Cause.{Cause}
-use Rattle.vsd_check.specs.declared.refusal.Cause.TheVariants.{Twice, UnknownType, Arity, Cycle, BadBase, BadInterface, VarianceMisplaced, VariantClass, OverridesFinal, AbstractInConcrete, OverrideUnknown, OverrideTwice}
+use Rattle.vsd_check.specs.declared.refusal.Cause.TheVariants.{Twice, UnknownType, Arity, Cycle, BadBase, BadInterface, VarianceMisplaced, VariantClass, OverridesFinal, AbstractInConcrete}
 use Rattle.vsd_check.specs.declared.refusal.Shown.{Shown}
 use Rattle.vsd_check.proofs.EarliestLaws.{At, IsFirst-none, IsFirst-same, IsFirst-sooner}
 
@@ -63,8 +63,6 @@ module _ (d : Decls) where
   first_at VariantClass line is q = inr (refl, q)
   first_at OverridesFinal line is q = absurd (omega (arith, is))
   first_at AbstractInConcrete line is q = absurd (omega (arith, is))
-  first_at OverrideUnknown line is q = absurd (omega (arith, is))
-  first_at OverrideTwice line is q = absurd (omega (arith, is))
 
   -- the least lines of the causes of the pass give the first of what shows in it
   pub first_first : (l1 l2 l3 l4 : Option ℕ) (s1 s2 s3 s4 : Option Shown) → s1 ≡ sooner_of None Twice l1 → s2 ≡ sooner_of s1 UnknownType l2 → s3 ≡ sooner_of s2 Arity l3 → s4 ≡ sooner_of s3 VariantClass l4 → IsLeast (TwiceAt d) l1 → IsLeast (UnknownAt d) l2 → IsLeast (ArityAt d) l3 → IsLeast (VariantAt d) l4 → IsFirst (ShowsIn d 1) s4
@@ -111,8 +109,6 @@ module _ (d : Decls) where
   second_at VariantClass line is q = absurd (omega (arith, is))
   second_at OverridesFinal line is q = absurd (omega (arith, is))
   second_at AbstractInConcrete line is q = absurd (omega (arith, is))
-  second_at OverrideUnknown line is q = absurd (omega (arith, is))
-  second_at OverrideTwice line is q = absurd (omega (arith, is))
 
   -- the least lines of the causes of the pass give the first of what shows in it
   pub second_first : (l1 l2 l3 : Option ℕ) (s1 s2 s3 : Option Shown) → s1 ≡ sooner_of None Cycle l1 → s2 ≡ sooner_of s1 BadBase l2 → s3 ≡ sooner_of s2 BadInterface l3 → IsLeast (CycleAt d) l1 → IsLeast (BadBaseAt d) l2 → IsLeast (BadInterfaceAt d) l3 → IsFirst (ShowsIn d 2) s3
@@ -122,3 +118,48 @@ module _ (d : Decls) where
       let f2 : IsFirst second_2 s2 = IsFirst-sooner second_1 BadBase (BadBaseAt d) s1 l2 s2 e2 (λ s h. omega (arith, second_1-number s h)) f1 q2 in
       let f3 : IsFirst second_3 s3 = IsFirst-sooner second_2 BadInterface (BadInterfaceAt d) s2 l3 s3 e3 (λ s h. omega (arith, second_2-number s h)) f2 q3 in
       IsFirst-same second_3 (ShowsIn d 2) s3 second_in (λ s w. second_at s.cause s.line w.0 w.1) f3
+
+  -- ---- pass 3
+
+  third_1 : Shown → Type 0
+  third_1 s = nothing s ⊎ At VarianceMisplaced (MisplacedAt d) s
+
+  third_2 : Shown → Type 0
+  third_2 s = third_1 s ⊎ At OverridesFinal (FinalOverriddenAt d) s
+
+  third_3 : Shown → Type 0
+  third_3 s = third_2 s ⊎ At AbstractInConcrete (AbstractAt d) s
+
+  third_1-number : (s : Shown) → third_1 s → number_of s.cause ≤ number_of VarianceMisplaced
+  unfolding third_1 nothing
+  third_1-number s e = elim e [ inl h ↦ absurd h | inr h ↦ omega (arith, number_is VarianceMisplaced (MisplacedAt d) s h) ]
+
+  third_2-number : (s : Shown) → third_2 s → number_of s.cause ≤ number_of OverridesFinal
+  unfolding third_2
+  third_2-number s e = elim e [ inl h ↦ omega (arith, third_1-number s h) | inr h ↦ omega (arith, number_is OverridesFinal (FinalOverriddenAt d) s h) ]
+
+  third_in : (s : Shown) → third_3 s → ShowsIn d 3 s
+  unfolding third_1 third_2 third_3 nothing
+  third_in s h3 = elim h3 [ inl h2 ↦ elim h2 [ inl h1 ↦ elim h1 [ inl h0 ↦ absurd h0 | inr w ↦ in_pass VarianceMisplaced s w ] | inr w ↦ in_pass OverridesFinal s w ] | inr w ↦ in_pass AbstractInConcrete s w ]
+
+  third_at : (c : Cause) (line : ℕ) → pass_of c ≡ 3 → Shows d c line → third_3 (record { line = line; cause = c })
+  unfolding third_1 third_2 third_3
+  third_at Twice line is q = absurd (omega (arith, is))
+  third_at UnknownType line is q = absurd (omega (arith, is))
+  third_at Arity line is q = absurd (omega (arith, is))
+  third_at Cycle line is q = absurd (omega (arith, is))
+  third_at BadBase line is q = absurd (omega (arith, is))
+  third_at BadInterface line is q = absurd (omega (arith, is))
+  third_at VarianceMisplaced line is q = inl (inl (inr (refl, q)))
+  third_at VariantClass line is q = absurd (omega (arith, is))
+  third_at OverridesFinal line is q = inl (inr (refl, q))
+  third_at AbstractInConcrete line is q = inr (refl, q)
+
+  -- the least lines of the causes of the pass give the first of what shows in it
+  pub third_first : (l1 l2 l3 : Option ℕ) (s1 s2 s3 : Option Shown) → s1 ≡ sooner_of None VarianceMisplaced l1 → s2 ≡ sooner_of s1 OverridesFinal l2 → s3 ≡ sooner_of s2 AbstractInConcrete l3 → IsLeast (MisplacedAt d) l1 → IsLeast (FinalOverriddenAt d) l2 → IsLeast (AbstractAt d) l3 → IsFirst (ShowsIn d 3) s3
+  unfolding third_1 third_2 third_3 nothing
+  third_first l1 l2 l3 s1 s2 s3 e1 e2 e3 q1 q2 q3 =
+      let f1 : IsFirst third_1 s1 = IsFirst-sooner nothing VarianceMisplaced (MisplacedAt d) None l1 s1 e1 (λ s h. absurd h) (IsFirst-none nothing (λ s h. h)) q1 in
+      let f2 : IsFirst third_2 s2 = IsFirst-sooner third_1 OverridesFinal (FinalOverriddenAt d) s1 l2 s2 e2 (λ s h. omega (arith, third_1-number s h)) f1 q2 in
+      let f3 : IsFirst third_3 s3 = IsFirst-sooner third_2 AbstractInConcrete (AbstractAt d) s2 l3 s3 e3 (λ s h. omega (arith, third_2-number s h)) f2 q3 in
+      IsFirst-same third_3 (ShowsIn d 3) s3 third_in (λ s w. third_at s.cause s.line w.0 w.1) f3

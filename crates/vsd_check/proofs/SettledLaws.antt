@@ -14,11 +14,11 @@ use Rattle.vsd_hierarchy.specs.Cycles.{graph_of}
 use Rattle.vsd_hierarchy.specs.Kinds.{HasBadBase, IsNoInterface}
 use Rattle.vsd_hierarchy.proofs.CycleLemmas.{cycle_shows}
 use Rattle.vsd_hierarchy.proofs.PlacedLemmas.{IsHierarchy-none}
-use Rattle.vsd_check.specs.Conditions.{Shows, ShowsIn, NoneIn, IsEarliest}
+use Rattle.vsd_check.specs.Conditions.{Shows, ShowsIn, NoneIn, IsEarliest, AreLawful}
 use Rattle.vsd_check.specs.Earliest.{IsFirst}
 use Rattle.vsd_check.specs.Refusals.{pass_of, ComesFirst}
 use Rattle.vsd_check.specs.declared.refusal.Cause.{Cause}
-use Rattle.vsd_check.specs.declared.refusal.Cause.TheVariants.{Twice, UnknownType, Arity, Cycle, BadBase, BadInterface, VarianceMisplaced, VariantClass, OverridesFinal, AbstractInConcrete, OverrideUnknown, OverrideTwice}
+use Rattle.vsd_check.specs.declared.refusal.Cause.TheVariants.{Twice, UnknownType, Arity, Cycle, BadBase, BadInterface, VarianceMisplaced, VariantClass, OverridesFinal, AbstractInConcrete}
 use Rattle.vsd_check.specs.declared.refusal.Shown.{Shown}
 
 module _ (d : Decls) where
@@ -70,8 +70,6 @@ module _ (d : Decls) where
   pass_some VariantClass = omega arith
   pass_some OverridesFinal = omega arith
   pass_some AbstractInConcrete = omega arith
-  pass_some OverrideUnknown = omega arith
-  pass_some OverrideTwice = omega arith
 
   pub none_before_first : (earlier : ℕ) → earlier < 1 → NoneIn d earlier
   none_before_first earlier less s w = omega (arith, pass_some s.cause, w.0)
@@ -79,3 +77,19 @@ module _ (d : Decls) where
   pub none_before_second : NoneIn d 1 → (earlier : ℕ) → earlier < 2 → NoneIn d earlier
   none_before_second first earlier less s w =
       let is : pass_of s.cause ≡ 1 = omega (arith, pass_some s.cause, w.0) in first s (is, w.1)
+
+  -- where no pass shows anything, the declarations are lawful
+  pub lawful_by_passes : NoneIn d 1 → NoneIn d 2 → NoneIn d 3 → AreLawful d
+  lawful_by_passes first second third c line shows = by c line shows
+    where
+    by : (c : Cause) (line : ℕ) → ¬ Shows d c line
+    by Twice line w = silent Twice first line w
+    by UnknownType line w = silent UnknownType first line w
+    by Arity line w = silent Arity first line w
+    by VariantClass line w = silent VariantClass first line w
+    by Cycle line w = silent Cycle second line w
+    by BadBase line w = silent BadBase second line w
+    by BadInterface line w = silent BadInterface second line w
+    by VarianceMisplaced line w = silent VarianceMisplaced third line w
+    by OverridesFinal line w = silent OverridesFinal third line w
+    by AbstractInConcrete line w = silent AbstractInConcrete third line w

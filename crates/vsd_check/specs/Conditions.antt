@@ -12,7 +12,7 @@ use Rattle.vsd_roots.specs.Final.{ShowsFinal}
 use Rattle.vsd_roots.specs.Variance.{ShowsMisplaced}
 use Rattle.vsd_check.specs.Refusals.{ComesFirst, pass_of}
 use Rattle.vsd_check.specs.declared.refusal.Cause.{Cause}
-use Rattle.vsd_check.specs.declared.refusal.Cause.TheVariants.{Twice, UnknownType, Arity, Cycle, BadBase, BadInterface, VarianceMisplaced, VariantClass, OverridesFinal, AbstractInConcrete, OverrideUnknown, OverrideTwice}
+use Rattle.vsd_check.specs.declared.refusal.Cause.TheVariants.{Twice, UnknownType, Arity, Cycle, BadBase, BadInterface, VarianceMisplaced, VariantClass, OverridesFinal, AbstractInConcrete}
 use Rattle.vsd_check.specs.declared.refusal.Shown.{Shown}
 
 module _ (d : Decls) where
@@ -59,8 +59,6 @@ module _ (d : Decls) where
   Shows VariantClass = VariantAt
   Shows OverridesFinal = FinalOverriddenAt
   Shows AbstractInConcrete = AbstractAt
-  Shows OverrideUnknown = λ line. ⊥
-  Shows OverrideTwice = λ line. ⊥
 
   -- it is a cause of this pass, and shows
   abbrev pub ShowsIn : ℕ → Shown → Type 0

@@ -18,8 +18,6 @@ pub enum Cause {
     VariantClass,
     OverridesFinal,
     AbstractInConcrete,
-    OverrideUnknown,
-    OverrideTwice,
 }
 
 /// A condition that shows, with its line, from 1.
@@ -71,13 +69,6 @@ pub enum CheckError {
     /// A class that isn't abstract has a slot whose method is abstract: the line of the declaration.
     #[error("line {line}: abstract in concrete")]
     AbstractInConcrete { line: u32 },
-    /// An override names no method of an interface that its class has, or no method of its class that fits: its line
-    /// (II.10.3.2, II.12.2).
-    #[error("line {line}: override unknown")]
-    OverrideUnknown { line: u32 },
-    /// An earlier override of the class has the same owner and method: the line of the later one.
-    #[error("line {line}: override twice")]
-    OverrideTwice { line: u32 },
     /// There is no memory.
     #[error("out of memory")]
     Memory,
@@ -110,7 +101,5 @@ pub(crate) fn refusal(shown: Shown) -> CheckError
         Cause::VariantClass => CheckError::VariantClass { line },
         Cause::OverridesFinal => CheckError::OverridesFinal { line },
         Cause::AbstractInConcrete => CheckError::AbstractInConcrete { line },
-        Cause::OverrideUnknown => CheckError::OverrideUnknown { line },
-        Cause::OverrideTwice => CheckError::OverrideTwice { line },
     }
 }

@@ -21,7 +21,7 @@ mark_at-other ms at i m differ = get_or-set_other ms at i m Unseen differ
 
 pub same_or_not : (i j : ℕ) → (i ≡ j) ⊎ (i ≢ j)
 same_or_not i j = elim (cases_order i j) [
-  inl e ↦ inl e
+  | inl e ↦ inl e
   | inr other ↦ inr (λ e. elim other [ inl lt ↦ omega arith | inr gt ↦ omega arith ])
 ]
 
@@ -76,7 +76,7 @@ module _ (g : List (List ℕ)) (ms : List Mark) (at : ℕ) (within : at < length
       let apart : (j : ℕ) → HasLevel ms j → j ≢ at = λ j has e. false≢true (sym not_level ∙ ap (λ i. is_level (mark_at ms i)) (sym e) ∙ has) in
       let agree : (j : ℕ) → HasLevel ms j → mark_at (set ms at Open) j ≡ mark_at ms j = λ j has. mark_at-other ms at j Open (apart j has) in
       let old : (i : ℕ) → HasLevel (set ms at Open) i → HasLevel ms i = λ i has. elim (same_or_not i at) [
-        inl e ↦ absurd (false≢true (sym (ap is_level (mark_at-same ms at Open within)) ∙ ap (λ j. is_level (mark_at (set ms at Open) j)) (sym e) ∙ has))
+        | inl e ↦ absurd (false≢true (sym (ap is_level (mark_at-same ms at Open within)) ∙ ap (λ j. is_level (mark_at (set ms at Open) j)) (sym e) ∙ has))
         | inr differ ↦ sym (ap is_level (mark_at-other ms at i Open differ)) ∙ has
       ] in
       let same = pending-open ms at within not_level in
@@ -101,21 +101,21 @@ module _ (g : List (List ℕ)) (ms : List Mark) (at : ℕ) (within : at < length
       let old : (i : ℕ) → i ≢ at → HasLevel new i → HasLevel ms i = λ i differ has. sym (ap is_level (mark_at-other ms at i (Level level) differ)) ∙ has in
       let fewer = pending-level ms at level within not_level in
       let bound : greatest (map (level_at ms) (targets g at)) + pending ms ≤ length ms =
-          greatest-few (level_at ms) (targets g at) (pending ms) (length ms) (count_by-le-length (λ (m : Mark). not (is_level m)) ms) (λ j w. sound.few j (done j w)) in
+      greatest-few (level_at ms) (targets g at) (pending ms) (length ms) (count_by-le-length (λ (m : Mark). not (is_level m)) ms) (λ j w. sound.few j (done j w)) in
       record {
         count = length-set ms at (Level level) ∙ sound.count;
         below = λ i j has step. elim (same_or_not i at) [
-          inl e ↦ (let b = done j (subst (λ (k : ℕ). Contains (targets g k) j) e step) in ap is_level (agree j b) ∙ b)
+          | inl e ↦ (let b = done j (subst (λ (k : ℕ). Contains (targets g k) j) e step) in ap is_level (agree j b) ∙ b)
           | inr differ ↦ (let b = sound.below i j (old i differ has) step in ap is_level (agree j b) ∙ b)
         ];
         right = λ i has. elim (same_or_not i at) [
-          inl e ↦ subst (λ (k : ℕ). level_at new k ≡ suc (greatest (map (level_at new) (targets g k)))) (sym e) (ap level_in here ∙ most ∙ ap (λ ls. suc (greatest ls)) (sym (levels_stay ms new agree (targets g at) done)))
+          | inl e ↦ subst (λ (k : ℕ). level_at new k ≡ suc (greatest (map (level_at new) (targets g k)))) (sym e) (ap level_in here ∙ most ∙ ap (λ ls. suc (greatest ls)) (sym (levels_stay ms new agree (targets g at) done)))
           | inr differ ↦ (let o = old i differ has in
-            let stay = levels_stay ms new agree (targets g i) (λ j w. sound.below i j o w) in
-            ap level_in (agree i o) ∙ sound.right i o ∙ ap (λ ls. suc (greatest ls)) (sym stay))
+              let stay = levels_stay ms new agree (targets g i) (λ j w. sound.below i j o w) in
+              ap level_in (agree i o) ∙ sound.right i o ∙ ap (λ ls. suc (greatest ls)) (sym stay))
         ];
         few = λ i has. elim (same_or_not i at) [
-          inl e ↦ omega (arith, ap (level_at new) e, ap level_in here, bound, most, fewer, length-set ms at (Level level))
+          | inl e ↦ omega (arith, ap (level_at new) e, ap level_in here, bound, most, fewer, length-set ms at (Level level))
           | inr differ ↦ (let o = old i differ has in omega (arith, sound.few i o, ap level_in (agree i o), fewer, length-set ms at (Level level)))
         ];
       }
@@ -151,7 +151,7 @@ module _ (old new : List Mark) (ts : List ℕ) (n next : ℕ) (within : n < leng
 
   pub done_more : (j : ℕ) → Contains (take (n + 1) ts) j → HasLevel new j
   done_more j w = elim (Contains-push_cases (take n ts) next j (subst (λ (xs : List ℕ). Contains xs j) more w)) [
-    inl early ↦ (let has = done j early in ap is_level (Extends-level old new extends j has) ∙ has)
+    | inl early ↦ (let has = done j early in ap is_level (Extends-level old new extends j has) ∙ has)
     | inr e ↦ ap (λ k. is_level (mark_at new k)) (sym e) ∙ ap is_level settled
   ]
 
@@ -165,11 +165,11 @@ module _ (old new : List Mark) (ts : List ℕ) (n next : ℕ) (within : n < leng
 pub Extends-visit : (old ms : List Mark) (at level : ℕ) → at < length old → at < length ms → mark_at old at ≡ Unseen → mark_at ms at ≡ Open → Extends (set old at Open) ms → Extends old (set ms at (Level level))
 Extends-visit old ms at level within after is now e = record {
   kept = λ i seen. elim (same_or_not i at) [
-    inl same ↦ absurd (false≢true (sym seen ∙ ap (λ k. is_unseen (mark_at old k)) same ∙ ap is_unseen is))
+    | inl same ↦ absurd (false≢true (sym seen ∙ ap (λ k. is_unseen (mark_at old k)) same ∙ ap is_unseen is))
     | inr differ ↦ mark_at-other ms at i (Level level) differ ∙ e.kept i (ap is_unseen (mark_at-other old at i Open differ) ∙ seen) ∙ mark_at-other old at i Open differ
   ];
   on_the_way = λ i open_there. elim (same_or_not i at) [
-    inl same ↦ absurd (false≢true (ap is_level (sym open_there ∙ ap (mark_at (set ms at (Level level))) same ∙ mark_at-same ms at (Level level) after)))
+    | inl same ↦ absurd (false≢true (ap is_level (sym open_there ∙ ap (mark_at (set ms at (Level level))) same ∙ mark_at-same ms at (Level level) after)))
     | inr differ ↦ sym (mark_at-other old at i Open differ) ∙ e.on_the_way i (sym (mark_at-other ms at i (Level level) differ) ∙ open_there)
   ];
   fewer = omega (arith, e.fewer, unseen-open old at within is, unseen-level ms at level after now);
@@ -178,7 +178,7 @@ Extends-visit old ms at level within after is now e = record {
 -- what is on the way while a place is visited leads to it
 pub LeadsTo-visit : (g : List (List ℕ)) (old ms : List Mark) (at : ℕ) → LeadsTo g old at → Extends (set old at Open) ms → LeadsTo g ms at
 LeadsTo-visit g old ms at leads e i is = elim (same_or_not i at) [
-  inl same ↦ (0, same)
+  | inl same ↦ (0, same)
   | inr differ ↦ leads i (sym (mark_at-other old at i Open differ) ∙ e.on_the_way i is)
 ]
 

@@ -27,19 +27,19 @@ Sees-follow g old new at within not_yet f = record {
   marks = record {
     count = f.marks.count ∙ length-set old at true;
     kept = λ i is. f.marks.kept i (elim (same_or_not i at) [
-      inl e ↦ ap (is_seen (set old at true)) e ∙ seen-same old at within
+      | inl e ↦ ap (is_seen (set old at true)) e ∙ seen-same old at within
       | inr differ ↦ seen-other old at i differ ∙ is
     ]);
     reached = λ i is. elim (f.marks.reached i is) [
-      inl marked ↦ (elim (same_or_not i at) [
-        inl e ↦ inr (0, sym e)
+      | inl marked ↦ (elim (same_or_not i at) [
+        | inl e ↦ inr (0, sym e)
         | inr differ ↦ inl (sym (seen-other old at i differ) ∙ marked)
       ])
       | inr walk ↦ inr (suc walk.0, walk.1)
     ];
     followed = λ i is. elim (f.marks.followed i is) [
-      inl marked ↦ (elim (same_or_not i at) [
-        inl e ↦ inr (λ j step. f.targets_seen j (subst (λ (k : ℕ). Contains (targets g k) j) e step))
+      | inl marked ↦ (elim (same_or_not i at) [
+        | inl e ↦ inr (λ j step. f.targets_seen j (subst (λ (k : ℕ). Contains (targets g k) j) e step))
         | inr differ ↦ inl (sym (seen-other old at i differ) ∙ marked)
       ])
       | inr all ↦ inr all
@@ -68,11 +68,11 @@ Marks-next g old mid new at next step before s = record {
   count = s.marks.count ∙ before.count;
   kept = λ i is. s.marks.kept i (before.kept i is);
   reached = λ i is. elim (s.marks.reached i is) [
-    inl marked ↦ before.reached i marked
+    | inl marked ↦ before.reached i marked
     | inr walk ↦ inr (walk.0, (next, step, walk.1))
   ];
   followed = λ i is. elim (s.marks.followed i is) [
-    inl marked ↦ (elim (before.followed i marked) [ inl early ↦ inl early | inr all ↦ inr (λ j there. s.marks.kept j (all j there)) ])
+    | inl marked ↦ (elim (before.followed i marked) [ inl early ↦ inl early | inr all ↦ inr (λ j there. s.marks.kept j (all j there)) ])
     | inr all ↦ inr all
   ];
   fewer = omega (arith, s.marks.fewer, before.fewer);
@@ -82,7 +82,7 @@ pub targets-next : (ts : List ℕ) (n next : ℕ) (mid new : List Bool) → n < 
 targets-next ts n next mid new within is kept here so_far j w =
     let more = take_more ts n 0 within ∙ ap (λ y. take n ts ++ y ∷ []) (sym is) in
     elim (Contains-push_cases (take n ts) next j (subst (λ (xs : List ℕ). Contains xs j) more w)) [
-      inl early ↦ kept j (so_far j early)
+      | inl early ↦ kept j (so_far j early)
       | inr e ↦ ap (is_seen new) (sym e) ∙ here
     ]
 
@@ -91,15 +91,18 @@ module _ (g : List (List ℕ)) (old new : List Bool) (at : ℕ) (none : (i : ℕ
   walked : (k i j : ℕ) → is_seen new i ≡ true → Walk g k i j → is_seen new j ≡ true
   walked zero i j is walk = ap (is_seen new) (sym walk) ∙ is
   walked (suc k) i j is walk = elim (f.marks.followed i is) [
-    inl early ↦ absurd (false≢true (sym (none i) ∙ early))
+    | inl early ↦ absurd (false≢true (sym (none i) ∙ early))
     | inr all ↦ walked k walk.0 j (all walk.0 walk.1) walk.2
   ]
 
   pub comes_back : (is_seen new at ≡ true) ↔ ReachesItself g at
-  comes_back = (λ is. elim (f.marks.reached at is) [
-    inl early ↦ absurd (false≢true (sym (none at) ∙ early))
-    | inr walk ↦ walk
-  ], λ r. walked r.0 r.1.0 at (f.targets_seen r.1.0 r.1.1) r.1.2)
+  comes_back = (
+    λ is. elim (f.marks.reached at is) [
+      | inl early ↦ absurd (false≢true (sym (none at) ∙ early))
+      | inr walk ↦ walk
+    ],
+    λ r. walked r.0 r.1.0 at (f.targets_seen r.1.0 r.1.1) r.1.2,
+  )
 
 -- nothing is seen at first
 pub none_seen : (n i : ℕ) → is_seen (replicate n false) i ≡ false

@@ -4,7 +4,5 @@
 mod levels;
 mod reaching;
 
-
-
 pub use levels::place_levels;
 pub use reaching::reaches_itself;

@@ -32,19 +32,19 @@ pub interface_of : (interfaces : List Located) (t : Term) → Contains (interfac
 interface_of [] t w = absurd (omega (arith, w.1))
 interface_of (l ∷ ls) t w = by w.0 w.1 w.2 (interface_of ls t)
   where
-  by : (k : ℕ) → k < length (l.term ∷ interface_terms ls) → get_or (l.term ∷ interface_terms ls) k t ≡ t → (Contains (interface_terms ls) t → IsTermOf ls t) → IsTermOf (l ∷ ls) t
-  by zero within is more = record { interface = l; among = (0, omega arith, refl); is = is }
-  by (suc k) within is more =
-      let r = more (k, omega (arith, within), is) in
-      record { interface = r.interface; among = (suc r.among.0, omega (arith, r.among.1), r.among.2); is = r.is }
+    by : (k : ℕ) → k < length (l.term ∷ interface_terms ls) → get_or (l.term ∷ interface_terms ls) k t ≡ t → (Contains (interface_terms ls) t → IsTermOf ls t) → IsTermOf (l ∷ ls) t
+    by zero within is more = record { interface = l; among = (0, omega arith, refl); is = is }
+    by (suc k) within is more =
+        let r = more (k, omega (arith, within), is) in
+        record { interface = r.interface; among = (suc r.among.0, omega (arith, r.among.1), r.among.2); is = r.is }
 
 base_of : (base : Option Located) (t : Term) → Contains (base_terms base) t → (b : Located) × (base ≡ Some b) × (b.term ≡ t)
 base_of None t w = absurd (omega (arith, w.1))
 base_of (Some b) t w = by w.0 w.1 w.2
   where
-  by : (k : ℕ) → k < length (b.term ∷ []) → get_or (b.term ∷ []) k t ≡ t → (c : Located) × (Some b ≡ Some c) × (c.term ≡ t)
-  by zero within is = (b, refl, is)
-  by (suc k) within is = absurd (omega (arith, within))
+    by : (k : ℕ) → k < length (b.term ∷ []) → get_or (b.term ∷ []) k t ≡ t → (c : Located) × (Some b ≡ Some c) × (c.term ≡ t)
+    by zero within is = (b, refl, is)
+    by (suc k) within is = absurd (omega (arith, within))
 
 module _ (ds : List Decl) (good_base : (i : ℕ) (x : Decl) → slice_get ds i ≡ Some x → ¬ HasBadBase ds x) (good_interfaces : (i : ℕ) (x : Decl) → slice_get ds i ≡ Some x → (l : Located) → Contains x.interfaces l → ¬ IsNoInterface ds (head_of l.term)) where
   abbrev is_interface_at : ℕ → Bool
@@ -67,13 +67,13 @@ module _ (ds : List Decl) (good_base : (i : ℕ) (x : Decl) → slice_get ds i �
 
   fit_base : (h : Head) (y : Decl) → ((name : ℕ) × (h ≡ named name) × (declared ds name ≡ Some y)) → ¬ IsUnfit ds h → y.is_interface ≡ false
   fit_base h y is fit = elim (true_or_false y.is_interface) [
-    inl interface ↦ absurd (fit (subst (IsUnfit ds) (sym is.1) (subst (λ (o : Option Decl). IsSomeAnd o (λ (b : Decl). (b.is_interface ≡ true) ⊎ ((b.sealed ≡ true) ⊎ IsTrue (is_value_type b)))) (sym is.2) (inl interface))))
+    | inl interface ↦ absurd (fit (subst (IsUnfit ds) (sym is.1) (subst (λ (o : Option Decl). IsSomeAnd o (λ (b : Decl). (b.is_interface ≡ true) ⊎ ((b.sealed ≡ true) ⊎ IsTrue (is_value_type b)))) (sym is.2) (inl interface))))
     | inr class ↦ class
   ]
 
   is_one : (h : Head) (y : Decl) → ((name : ℕ) × (h ≡ named name) × (declared ds name ≡ Some y)) → ¬ IsNoInterface ds h → y.is_interface ≡ true
   is_one h y is one = elim (true_or_false y.is_interface) [
-    inl interface ↦ interface
+    | inl interface ↦ interface
     | inr class ↦ absurd (one (subst (IsNoInterface ds) (sym is.1) (subst (λ (o : Option Decl). IsSomeAnd o (λ (i : Decl). i.is_interface ≡ false)) (sym is.2) class)))
   ]
 
@@ -83,29 +83,29 @@ module _ (ds : List Decl) (good_base : (i : ℕ) (x : Decl) → slice_get ds i �
       let x = e.declaration in
       let kind : is_interface_at i ≡ x.is_interface = ap interface_in e.there in
       elim (above_cases ds x j e.leads) [
-        inl by_base ↦ inr (
-        let s = step_from ds (base_terms x.base) j by_base in
-        let b = base_of x.base s.term s.among in
-        let class : x.is_interface ≡ false = elim (true_or_false x.is_interface) [
-          inl interface ↦ absurd (good_base i x e.there (inl (interface, subst IsSome (sym b.1) refl)))
-          | inr class ↦ class
-        ] in
-        let y = names_kind (head_of s.term) j s.named_place in
-        let fit : ¬ IsUnfit ds (head_of s.term) = λ unfit. good_base i x e.there (inr (subst (λ (o : Option Located). IsSomeAnd o (λ (c : Located). IsUnfit ds (head_of c.term))) (sym b.1) (subst (λ (t : Term). IsUnfit ds (head_of t)) (sym b.2) unfit))) in
-        (kind ∙ class, y.2 ∙ fit_base (head_of s.term) y.0 y.1 fit, in_followed i j x e.there (subst (λ (c : Bool). Contains (places_of ds (cond c (interface_terms x.interfaces) (base_terms x.base))) j) (sym class) by_base)))
+        | inl by_base ↦ inr (
+            let s = step_from ds (base_terms x.base) j by_base in
+            let b = base_of x.base s.term s.among in
+            let class : x.is_interface ≡ false = elim (true_or_false x.is_interface) [
+              | inl interface ↦ absurd (good_base i x e.there (inl (interface, subst IsSome (sym b.1) refl)))
+              | inr class ↦ class
+            ] in
+            let y = names_kind (head_of s.term) j s.named_place in
+            let fit : ¬ IsUnfit ds (head_of s.term) = λ unfit. good_base i x e.there (inr (subst (λ (o : Option Located). IsSomeAnd o (λ (c : Located). IsUnfit ds (head_of c.term))) (sym b.1) (subst (λ (t : Term). IsUnfit ds (head_of t)) (sym b.2) unfit))) in
+            (kind ∙ class, y.2 ∙ fit_base (head_of s.term) y.0 y.1 fit, in_followed i j x e.there (subst (λ (c : Bool). Contains (places_of ds (cond c (interface_terms x.interfaces) (base_terms x.base))) j) (sym class) by_base)))
         | inr by_interface ↦ inl (
-        let s = step_from ds (interface_terms x.interfaces) j by_interface in
-        let l = interface_of x.interfaces s.term s.among in
-        let y = names_kind (head_of s.term) j s.named_place in
-        let one : ¬ IsNoInterface ds (head_of s.term) = λ none. good_interfaces i x e.there l.interface l.among (subst (λ (t : Term). IsNoInterface ds (head_of t)) (sym l.is) none) in
-        (y.2 ∙ is_one (head_of s.term) y.0 y.1 one, λ interface. in_followed i j x e.there (subst (λ (c : Bool). Contains (places_of ds (cond c (interface_terms x.interfaces) (base_terms x.base))) j) (sym (sym kind ∙ interface)) by_interface)))
+            let s = step_from ds (interface_terms x.interfaces) j by_interface in
+            let l = interface_of x.interfaces s.term s.among in
+            let y = names_kind (head_of s.term) j s.named_place in
+            let one : ¬ IsNoInterface ds (head_of s.term) = λ none. good_interfaces i x e.there l.interface l.among (subst (λ (t : Term). IsNoInterface ds (head_of t)) (sym l.is) none) in
+            (y.2 ∙ is_one (head_of s.term) y.0 y.1 one, λ interface. in_followed i j x e.there (subst (λ (c : Bool). Contains (places_of ds (cond c (interface_terms x.interfaces) (base_terms x.base))) j) (sym (sym kind ∙ interface)) by_interface)))
       ]
 
   -- from an interface one comes to interfaces alone, by required interfaces
   from_interface : (k i j : ℕ) → is_interface_at i ≡ true → Walk (graph_of ds above) k i j → (is_interface_at j ≡ true) × Walk (graph_of ds followed) k i j
   from_interface zero i j is walk = (ap is_interface_at (sym walk) ∙ is, walk)
   from_interface (suc k) i j is walk = elim (step_kind i walk.0 walk.1) [
-    inl up ↦ (let rest = from_interface k walk.0 j up.0 walk.2 in (rest.0, (walk.0, up.1 is, rest.1)))
+    | inl up ↦ (let rest = from_interface k walk.0 j up.0 walk.2 in (rest.0, (walk.0, up.1 is, rest.1)))
     | inr class ↦ absurd (true≢false (sym is ∙ class.0))
   ]
 
@@ -113,13 +113,13 @@ module _ (ds : List Decl) (good_base : (i : ℕ) (x : Decl) → slice_get ds i �
   from_class : (k i j : ℕ) → is_interface_at i ≡ false → is_interface_at j ≡ false → Walk (graph_of ds above) k i j → Walk (graph_of ds followed) k i j
   from_class zero i j is ends walk = walk
   from_class (suc k) i j is ends walk = elim (step_kind i walk.0 walk.1) [
-    inl up ↦ absurd (true≢false (sym (from_interface k walk.0 j up.0 walk.2).0 ∙ ends))
+    | inl up ↦ absurd (true≢false (sym (from_interface k walk.0 j up.0 walk.2).0 ∙ ends))
     | inr class ↦ (walk.0, class.2, from_class k walk.0 j class.1 ends walk.2)
   ]
 
   pub follows_back : (i : ℕ) → ReachesItself (graph_of ds above) i → ReachesItself (graph_of ds followed) i
   follows_back i r = elim (true_or_false (is_interface_at i)) [
-    inl interface ↦ (r.0, (from_interface (suc r.0) i i interface r.1).1)
+    | inl interface ↦ (r.0, (from_interface (suc r.0) i i interface r.1).1)
     | inr class ↦ (r.0, from_class (suc r.0) i i class class r.1)
   ]
 

@@ -36,9 +36,9 @@ module _ (ds : List Decl) (levels : List ℕ) (count : length levels ≡ length 
       let here = number_is (head_of t) in
       by (place_named ds (head_of t)) here rest
     where
-    by : (o : Option ℕ) → number_for ds levels (head_of t) ≡ level_of o → greatest (map (λ j. get_or levels j 0) (places_of ds ts)) ≡ greatest (map (λ t. number_for ds levels (head_of t)) ts) → greatest (map (λ j. get_or levels j 0) (cons_option o (places_of ds ts))) ≡ max (number_for ds levels (head_of t)) (greatest (map (λ t. number_for ds levels (head_of t)) ts))
-    by None here rest = omega (arith, here, rest)
-    by (Some j) here rest = omega (arith, here, rest)
+      by : (o : Option ℕ) → number_for ds levels (head_of t) ≡ level_of o → greatest (map (λ j. get_or levels j 0) (places_of ds ts)) ≡ greatest (map (λ t. number_for ds levels (head_of t)) ts) → greatest (map (λ j. get_or levels j 0) (cons_option o (places_of ds ts))) ≡ max (number_for ds levels (head_of t)) (greatest (map (λ t. number_for ds levels (head_of t)) ts))
+      by None here rest = omega (arith, here, rest)
+      by (Some j) here rest = omega (arith, here, rest)
 
 pub AreDepths-levels : (ds : List Decl) (levels : List ℕ) → AreLevels (graph_of ds above) levels → AreDepths ds levels
 AreDepths-levels ds levels are =
@@ -53,9 +53,9 @@ among-greatest : (f : ℕ → ℕ) (ts : List ℕ) (j : ℕ) → Contains ts j �
 among-greatest f [] j w = absurd (omega (arith, w.1))
 among-greatest f (t ∷ ts) j w = by w.0 w.1 w.2 (among-greatest f ts j)
   where
-  by : (k : ℕ) → k < length (t ∷ ts) → get_or (t ∷ ts) k j ≡ j → (Contains ts j → f j ≤ greatest (map f ts)) → f j ≤ max (f t) (greatest (map f ts))
-  by zero within is more = omega (arith, ap f is)
-  by (suc k) within is more = omega (arith, more (k, omega (arith, within), is))
+    by : (k : ℕ) → k < length (t ∷ ts) → get_or (t ∷ ts) k j ≡ j → (Contains ts j → f j ≤ greatest (map f ts)) → f j ≤ max (f t) (greatest (map f ts))
+    by zero within is more = omega (arith, ap f is)
+    by (suc k) within is more = omega (arith, more (k, omega (arith, within), is))
 
 module _ (ds : List Decl) (depths : List ℕ) (are : AreDepths ds depths) where
   -- a step upward leads to a lower depth

@@ -28,14 +28,16 @@ pub filter_map-from : {X : Type 0} (f : X → Option ℕ) (xs : List X) (y : ℕ
 filter_map-from f [] y w = absurd (omega (arith, w.1))
 filter_map-from {X} f (x ∷ xs) y w = by (f x) refl w (filter_map-from f xs y)
   where
-  rest : FromOne f xs y → FromOne f (x ∷ xs) y
-  rest r = record { element = r.element; among = later x xs r.element r.among; gives = r.gives }
-  found : (z k : ℕ) → f x ≡ Some z → k < length (z ∷ filter_map f xs) → get_or (z ∷ filter_map f xs) k y ≡ y → (Contains (filter_map f xs) y → FromOne f xs y) → FromOne f (x ∷ xs) y
-  found z zero is within here more = record { element = x; among = (0, omega arith, refl); gives = is ∙ ap Some here }
-  found z (suc k) is within here more = rest (more (k, omega (arith, within), here))
-  by : (o : Option ℕ) → f x ≡ o → Contains (cons_option o (filter_map f xs)) y → (Contains (filter_map f xs) y → FromOne f xs y) → FromOne f (x ∷ xs) y
-  by None is v more = rest (more v)
-  by (Some z) is v more = found z v.0 is v.1 v.2 more
+    rest : FromOne f xs y → FromOne f (x ∷ xs) y
+    rest r = record { element = r.element; among = later x xs r.element r.among; gives = r.gives }
+
+    found : (z k : ℕ) → f x ≡ Some z → k < length (z ∷ filter_map f xs) → get_or (z ∷ filter_map f xs) k y ≡ y → (Contains (filter_map f xs) y → FromOne f xs y) → FromOne f (x ∷ xs) y
+    found z zero is within here more = record { element = x; among = (0, omega arith, refl); gives = is ∙ ap Some here }
+    found z (suc k) is within here more = rest (more (k, omega (arith, within), here))
+
+    by : (o : Option ℕ) → f x ≡ o → Contains (cons_option o (filter_map f xs)) y → (Contains (filter_map f xs) y → FromOne f xs y) → FromOne f (x ∷ xs) y
+    by None is v more = rest (more v)
+    by (Some z) is v more = found z v.0 is v.1 v.2 more
 
 module _ (ds : List Decl) where
   -- the declaration that a head names stands at this place
@@ -71,20 +73,21 @@ module _ (ds : List Decl) where
 
     pub edge_from : (i j : ℕ) → Contains (targets (graph_of ds terms) i) j → IsEdge i j
     edge_from i j w = elim (cases_lt i (length ds)) [
-      inl within ↦ at_declaration (slice_get ds i) refl within
+      | inl within ↦ at_declaration (slice_get ds i) refl within
       | inr past ↦ absurd (nothing (omega (arith, past, length-map ds (λ (y : Decl). places_of ds (terms y)))))
     ]
       where
-      nothing : length (graph_of ds terms) ≤ i → ⊥
-      nothing past = let v = subst (λ (xs : List ℕ). Contains xs j) (get_or_past (graph_of ds terms) i [] past) w in omega (arith, v.1)
-      at_declaration : (o : Option Decl) → slice_get ds i ≡ o → i < length ds → IsEdge i j
-      at_declaration None none within = absurd (some_there ds i within none)
-        where
-        some_there : (xs : List Decl) (k : ℕ) → k < length xs → slice_get xs k ≡ None → ⊥
-        some_there [] k lt none = omega arith
-        some_there (y ∷ ys) zero lt none = absurd cc
-        some_there (y ∷ ys) (suc k) lt none = some_there ys k (omega arith) none
-      at_declaration (Some x) here within = record { declaration = x; there = here; leads = subst (λ (xs : List ℕ). Contains xs j) (targets_at i x here) w }
+        nothing : length (graph_of ds terms) ≤ i → ⊥
+        nothing past = let v = subst (λ (xs : List ℕ). Contains xs j) (get_or_past (graph_of ds terms) i [] past) w in omega (arith, v.1)
+
+        at_declaration : (o : Option Decl) → slice_get ds i ≡ o → i < length ds → IsEdge i j
+        at_declaration None none within = absurd (some_there ds i within none)
+          where
+            some_there : (xs : List Decl) (k : ℕ) → k < length xs → slice_get xs k ≡ None → ⊥
+            some_there [] k lt none = omega arith
+            some_there (y ∷ ys) zero lt none = absurd cc
+            some_there (y ∷ ys) (suc k) lt none = some_there ys k (omega arith) none
+        at_declaration (Some x) here within = record { declaration = x; there = here; leads = subst (λ (xs : List ℕ). Contains xs j) (targets_at i x here) w }
 
     -- each step leads to a declaration
     pub IsClosed-graph_of : IsClosed (graph_of ds terms)
@@ -101,9 +104,9 @@ module _ (ds : List Decl) where
   pub followed_above : (x : Decl) (j : ℕ) → Contains (places_of ds (followed x)) j → Contains (places_of ds (above x)) j
   followed_above x j w = subst (λ (xs : List ℕ). Contains xs j) (sym (places_of-append (base_terms x.base) (interface_terms x.interfaces))) (by x.is_interface w)
     where
-    by : (b : Bool) → Contains (places_of ds (cond b (interface_terms x.interfaces) (base_terms x.base))) j → Contains (places_of ds (base_terms x.base) ++ places_of ds (interface_terms x.interfaces)) j
-    by true v = Contains-append_right (places_of ds (base_terms x.base)) (places_of ds (interface_terms x.interfaces)) j v
-    by false v = Contains-append_left (places_of ds (base_terms x.base)) (places_of ds (interface_terms x.interfaces)) j v
+      by : (b : Bool) → Contains (places_of ds (cond b (interface_terms x.interfaces) (base_terms x.base))) j → Contains (places_of ds (base_terms x.base) ++ places_of ds (interface_terms x.interfaces)) j
+      by true v = Contains-append_right (places_of ds (base_terms x.base)) (places_of ds (interface_terms x.interfaces)) j v
+      by false v = Contains-append_left (places_of ds (base_terms x.base)) (places_of ds (interface_terms x.interfaces)) j v
 
   -- what stands above a declaration is its base or an interface
   pub above_cases : (x : Decl) (j : ℕ) → Contains (places_of ds (above x)) j → Contains (places_of ds (base_terms x.base)) j ⊎ Contains (places_of ds (interface_terms x.interfaces)) j

@@ -32,9 +32,9 @@ module _ (ds : List Decl) where
   takes_where None n known counted = absurd (false≢true (sym known))
   takes_where (Some x) n known counted = by (eqb (length x.params) n) counted
     where
-    by : (b : Bool) → not b ≡ false → b ≡ true
-    by true e = refl
-    by false e = absurd (false≢true (sym e))
+      by : (b : Bool) → not b ≡ false → b ≡ true
+      by true e = refl
+      by false e = absurd (false≢true (sym e))
 
   left_false : (a b : Bool) → (a || b) ≡ false → a ≡ false
   left_false true b e = absurd (false≢true (sym e))

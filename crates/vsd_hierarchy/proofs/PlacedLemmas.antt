@@ -56,16 +56,16 @@ module _ (ds : List Decl) where
   fit_class : (y : Decl) → ¬ ((y.is_interface ≡ true) ⊎ ((y.sealed ≡ true) ⊎ IsTrue (is_value_type y))) → (y.is_interface ≡ false) × (y.sealed ≡ false) × (is_value_type y ≡ false)
   fit_class y fit = (not_true y.is_interface (λ h. fit (inl h)), not_true y.sealed (λ h. fit (inr (inl h))), not_true (is_value_type y) (λ h. fit (inr (inr h))))
     where
-    not_true : (b : Bool) → ¬ (b ≡ true) → b ≡ false
-    not_true true no_one = absurd (no_one refl)
-    not_true false no_one = refl
+      not_true : (b : Bool) → ¬ (b ≡ true) → b ≡ false
+      not_true true no_one = absurd (no_one refl)
+      not_true false no_one = refl
 
   base_from : (h : Head) → IsClassHead h → ((name : ℕ) → h ≡ named name → (x : Decl) × (declared ds name ≡ Some x)) → ¬ IsUnfit ds h → IsBase ds h
   base_from (named name) class there fit = by (declared ds name) (there name refl).1 fit
     where
-    by : (o : Option Decl) → o ≡ Some (there name refl).0 → ¬ IsSomeAnd o (λ (b : Decl). (b.is_interface ≡ true) ⊎ ((b.sealed ≡ true) ⊎ IsTrue (is_value_type b))) → IfSome o (λ (b : Decl). (b.is_interface ≡ false) × (b.sealed ≡ false) × (is_value_type b ≡ false))
-    by None e f = absurd cc
-    by (Some y) e f = fit_class y f
+      by : (o : Option Decl) → o ≡ Some (there name refl).0 → ¬ IsSomeAnd o (λ (b : Decl). (b.is_interface ≡ true) ⊎ ((b.sealed ≡ true) ⊎ IsTrue (is_value_type b))) → IfSome o (λ (b : Decl). (b.is_interface ≡ false) × (b.sealed ≡ false) × (is_value_type b ≡ false))
+      by None e f = absurd cc
+      by (Some y) e f = fit_class y f
   base_from (parameter place) class there fit = absurd class
   base_from (built_in Object) class there fit = tt
   base_from (built_in ValueType) class there fit = tt
@@ -75,12 +75,13 @@ module _ (ds : List Decl) where
   interface_from : (h : Head) → ((name : ℕ) → h ≡ named name → (x : Decl) × (declared ds name ≡ Some x)) → ¬ IsNoInterface ds h → IsInterface ds h
   interface_from (named name) there one = by (declared ds name) (there name refl).1 one
     where
-    is_true : (b : Bool) → ¬ (b ≡ false) → b ≡ true
-    is_true true no_one = refl
-    is_true false no_one = absurd (no_one refl)
-    by : (o : Option Decl) → o ≡ Some (there name refl).0 → ¬ IsSomeAnd o (λ (i : Decl). i.is_interface ≡ false) → IfSome o (λ (i : Decl). i.is_interface ≡ true)
-    by None e f = absurd cc
-    by (Some y) e f = is_true y.is_interface f
+      is_true : (b : Bool) → ¬ (b ≡ false) → b ≡ true
+      is_true true no_one = refl
+      is_true false no_one = absurd (no_one refl)
+
+      by : (o : Option Decl) → o ≡ Some (there name refl).0 → ¬ IsSomeAnd o (λ (i : Decl). i.is_interface ≡ false) → IfSome o (λ (i : Decl). i.is_interface ≡ true)
+      by None e f = absurd cc
+      by (Some y) e f = is_true y.is_interface f
   interface_from (parameter place) there one = absurd (one tt)
   interface_from (built_in b) there one = absurd (one tt)
 
@@ -109,8 +110,8 @@ module _ (d : Decls) (well : AreWellFormed d) (twice : NoneShows d.list (ShowsTw
       (λ names. no_line (λ _. ShowsUnknown d.list) unknown i x here b.line (inl (at_base (IsUnknown d.list) names)))
       (λ names. no_line (λ _. ShowsArity d.list) arity i x here b.line (inl (at_base (IsMiscounted d.list) names)))
     where
-    at_base : (P : ℕ × ℕ → Type 0) → Names P (b.term ∷ []) → IsSomeAnd x.base (λ (c : Located). Names P (c.term ∷ []) × (b.line ≡ c.line))
-    at_base P names = subst (λ (o : Option Located). IsSomeAnd o (λ (c : Located). Names P (c.term ∷ []) × (b.line ≡ c.line))) (sym is) (names, refl)
+      at_base : (P : ℕ × ℕ → Type 0) → Names P (b.term ∷ []) → IsSomeAnd x.base (λ (c : Located). Names P (c.term ∷ []) × (b.line ≡ c.line))
+      at_base P names = subst (λ (o : Option Located). IsSomeAnd o (λ (c : Located). Names P (c.term ∷ []) × (b.line ≡ c.line))) (sym is) (names, refl)
 
   interface_lawful : (i : ℕ) (x : Decl) → slice_get d.list i ≡ Some x → (k : ℕ) (l : Located) → slice_get x.interfaces k ≡ Some l → is_lawful d.list l.term ≡ true
   interface_lawful i x here k l there = is_lawful_where d.list l.term
@@ -129,16 +130,18 @@ module _ (d : Decls) (well : AreWellFormed d) (twice : NoneShows d.list (ShowsTw
             interface_from d.list (head_of l.term) (λ name is. declared_head d.list l.term name is (interface_lawful i x here k l there)) (good_interface i x here k l there));
       }
     where
-    bases : (o : Option Located) → x.base ≡ o → All (λ t. IsTrue (is_lawful d.list t)) (base_terms o)
-    bases None is = All-nil (λ t. IsTrue (is_lawful d.list t))
-    bases (Some b) is = All-cons (λ t. IsTrue (is_lawful d.list t)) b.term [] (base_lawful i x here b is) (All-nil (λ t. IsTrue (is_lawful d.list t)))
-    none : (o : Option Located) → x.base ≡ o → x.is_interface ≡ true → x.base ≡ None
-    none None is interface = is
-    none (Some b) is interface = absurd (good_base i x here (inl (interface, subst IsSome (sym is) refl)))
-    fit : (o : Option Located) → x.base ≡ o → IfSome o (λ (b : Located). IsClassWritten (length d.names) (length x.params) b.term) → IfSome o (λ (b : Located). IsBase d.list (head_of b.term))
-    fit None is w = tt
-    fit (Some b) is w = base_from d.list (head_of b.term) w.class (λ name e. declared_head d.list b.term name e (base_lawful i x here b is))
-        (λ unfit. good_base i x here (inr (subst (λ (o : Option Located). IsSomeAnd o (λ (c : Located). IsUnfit d.list (head_of c.term))) (sym is) unfit)))
+      bases : (o : Option Located) → x.base ≡ o → All (λ t. IsTrue (is_lawful d.list t)) (base_terms o)
+      bases None is = All-nil (λ t. IsTrue (is_lawful d.list t))
+      bases (Some b) is = All-cons (λ t. IsTrue (is_lawful d.list t)) b.term [] (base_lawful i x here b is) (All-nil (λ t. IsTrue (is_lawful d.list t)))
+
+      none : (o : Option Located) → x.base ≡ o → x.is_interface ≡ true → x.base ≡ None
+      none None is interface = is
+      none (Some b) is interface = absurd (good_base i x here (inl (interface, subst IsSome (sym is) refl)))
+
+      fit : (o : Option Located) → x.base ≡ o → IfSome o (λ (b : Located). IsClassWritten (length d.names) (length x.params) b.term) → IfSome o (λ (b : Located). IsBase d.list (head_of b.term))
+      fit None is w = tt
+      fit (Some b) is w = base_from d.list (head_of b.term) w.class (λ name e. declared_head d.list b.term name e (base_lawful i x here b is))
+          (λ unfit. good_base i x here (inr (subst (λ (o : Option Located). IsSomeAnd o (λ (c : Located). IsUnfit d.list (head_of c.term))) (sym is) unfit)))
 
   apart : (i j : ℕ) (x y : Decl) → slice_get d.list i ≡ Some x → slice_get d.list j ≡ Some y → x.name ≡ y.name → i < j → ⊥
   apart i j x y here there same below =
@@ -147,9 +150,9 @@ module _ (d : Decls) (well : AreWellFormed d) (twice : NoneShows d.list (ShowsTw
   pub IsHierarchy-none : (depths : List ℕ) → AreDepths d.list depths → IsHierarchy d.list depths
   IsHierarchy-none depths are = record {
     distinct = λ i j x y here there same. elim (cases_order i j) [
-      inl e ↦ e
+      | inl e ↦ e
       | inr other ↦ elim other [
-        inl below ↦ absurd (apart i j x y here there same below)
+        | inl below ↦ absurd (apart i j x y here there same below)
         | inr above ↦ absurd (apart j i y x there here (sym same) above)
       ]
     ];

@@ -75,7 +75,10 @@ pub fn bad_interface(scope: &Scope, decl: &Decl) -> Option<u32>
 {
     let mut found = None;
     for interface in decl.interfaces.as_slice() {
-        found = earlier(found, shown(is_no_interface(scope, &interface.term), interface.line));
+        found = earlier(
+            found,
+            shown(is_no_interface(scope, &interface.term), interface.line),
+        );
     }
     found
 }

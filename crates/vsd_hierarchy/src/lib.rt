@@ -7,6 +7,5 @@ mod depths;
 mod kinds;
 mod upward;
 
-
 pub use depths::{depths_of, first_cycle};
 pub use kinds::{bad_base, bad_interface};

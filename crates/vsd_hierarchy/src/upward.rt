@@ -28,7 +28,11 @@ fn add(scope: &Scope, places: &mut Items<u16>, term: &Term) -> Result<(), AllocE
     Ok(())
 }
 
-fn add_base(scope: &Scope, places: &mut Items<u16>, base: &Option<Located>) -> Result<(), AllocError>
+fn add_base(
+    scope: &Scope,
+    places: &mut Items<u16>,
+    base: &Option<Located>,
+) -> Result<(), AllocError>
     ensures { OnOk result (places.new ≡ places.old ++ places_of scope.now.list.now (base_terms base.now)) }
 {
     match base {
@@ -37,7 +41,11 @@ fn add_base(scope: &Scope, places: &mut Items<u16>, base: &Option<Located>) -> R
     }
 }
 
-fn add_interfaces(scope: &Scope, places: &mut Items<u16>, interfaces: &[Located]) -> Result<(), AllocError>
+fn add_interfaces(
+    scope: &Scope,
+    places: &mut Items<u16>,
+    interfaces: &[Located],
+) -> Result<(), AllocError>
     ensures { OnOk result (places.new ≡ places.old ++ places_of scope.now.list.now (interface_terms interfaces.now)) }
 {
     for interface in interfaces {

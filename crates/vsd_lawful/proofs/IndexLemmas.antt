@@ -22,41 +22,41 @@ unfolding declared place_of
 place_from-Some first [] name place found = absurd cc
 place_from-Some first (x ∷ xs) name place found = by (eqb x.name name) refl (place_from-Some (first + 1) xs name place)
   where
-  by : (b : Bool) → eqb x.name name ≡ b → (place_from (first + 1) xs name ≡ Some place → IsPlaceOf xs (first + 1) name place) → IsPlaceOf (x ∷ xs) first name place
-  by true is later =
-      let at : Some first ≡ Some place = sym (ap (λ b. cond b (Some first) (place_from (first + 1) xs name)) is) ∙ found in
-      let same : first ≡ place = cc in
-      record {
-        offset = 0;
-        is = omega arith;
-        within = omega arith;
-        element = x;
-        there = refl;
-        named = eqb-true x.name name is;
-        first_one = ap (λ b. cond b (Some x) (declared xs name)) is;
-        lookup = ap (λ b. cond b 0 (place_of xs name + 1)) is;
-      }
-  by false is later =
-      let r = later (sym (ap (λ b. cond b (Some first) (place_from (first + 1) xs name)) is) ∙ found) in
-      record {
-        offset = r.offset + 1;
-        is = omega (arith, r.is);
-        within = omega (arith, r.within);
-        element = r.element;
-        there = let e = r.there in rw add-one e;
-        named = r.named;
-        first_one = ap (λ b. cond b (Some x) (declared xs name)) is ∙ r.first_one;
-        lookup = ap (λ b. cond b 0 (place_of xs name + 1)) is ∙ ap (λ n. n + 1) r.lookup;
-      }
+    by : (b : Bool) → eqb x.name name ≡ b → (place_from (first + 1) xs name ≡ Some place → IsPlaceOf xs (first + 1) name place) → IsPlaceOf (x ∷ xs) first name place
+    by true is later =
+        let at : Some first ≡ Some place = sym (ap (λ b. cond b (Some first) (place_from (first + 1) xs name)) is) ∙ found in
+        let same : first ≡ place = cc in
+        record {
+          offset = 0;
+          is = omega arith;
+          within = omega arith;
+          element = x;
+          there = refl;
+          named = eqb-true x.name name is;
+          first_one = ap (λ b. cond b (Some x) (declared xs name)) is;
+          lookup = ap (λ b. cond b 0 (place_of xs name + 1)) is;
+        }
+    by false is later =
+        let r = later (sym (ap (λ b. cond b (Some first) (place_from (first + 1) xs name)) is) ∙ found) in
+        record {
+          offset = r.offset + 1;
+          is = omega (arith, r.is);
+          within = omega (arith, r.within);
+          element = r.element;
+          there = let e = r.there in rw add-one e;
+          named = r.named;
+          first_one = ap (λ b. cond b (Some x) (declared xs name)) is ∙ r.first_one;
+          lookup = ap (λ b. cond b 0 (place_of xs name + 1)) is ∙ ap (λ n. n + 1) r.lookup;
+        }
 
 pub place_from-None : (first : ℕ) (ds : List Decl) (name : ℕ) → place_from first ds name ≡ None → declared ds name ≡ None
 unfolding declared
 place_from-None first [] name missing = refl
 place_from-None first (x ∷ xs) name missing = by (eqb x.name name) missing (place_from-None (first + 1) xs name)
   where
-  by : (b : Bool) → cond b (Some first) (place_from (first + 1) xs name) ≡ None → (place_from (first + 1) xs name ≡ None → declared xs name ≡ None) → cond b (Some x) (declared xs name) ≡ None
-  by true e later = absurd cc
-  by false e later = later e
+    by : (b : Bool) → cond b (Some first) (place_from (first + 1) xs name) ≡ None → (place_from (first + 1) xs name ≡ None → declared xs name ≡ None) → cond b (Some x) (declared xs name) ≡ None
+    by true e later = absurd cc
+    by false e later = later e
 
 -- no declaration of the name stands before the place found
 pub place_from-least : (first : ℕ) (ds : List Decl) (name place k : ℕ) (y : Decl) → place_from first ds name ≡ Some place → slice_get ds k ≡ Some y → y.name ≡ name → place ≤ first + k
@@ -68,9 +68,9 @@ place_from-least first (x ∷ xs) name place zero y found here named =
     omega arith
 place_from-least first (x ∷ xs) name place (suc k) y found here named = by (eqb x.name name) found (λ later. place_from-least (first + 1) xs name place k y later here named)
   where
-  by : (b : Bool) → cond b (Some first) (place_from (first + 1) xs name) ≡ Some place → (place_from (first + 1) xs name ≡ Some place → place ≤ (first + 1) + k) → place ≤ first + suc k
-  by true e later = let same : first ≡ place = cc in omega arith
-  by false e later = omega (arith, later e)
+    by : (b : Bool) → cond b (Some first) (place_from (first + 1) xs name) ≡ Some place → (place_from (first + 1) xs name ≡ Some place → place ≤ (first + 1) + k) → place ≤ first + suc k
+    by true e later = let same : first ≡ place = cc in omega arith
+    by false e later = omega (arith, later e)
 
 -- where the table has no place, no declaration has the name
 pub place_from-absent : (first : ℕ) (ds : List Decl) (name k : ℕ) (y : Decl) → place_from first ds name ≡ None → slice_get ds k ≡ Some y → y.name ≡ name → ⊥
@@ -81,18 +81,18 @@ place_from-absent first (x ∷ xs) name zero y missing here named =
     absurd cc
 place_from-absent first (x ∷ xs) name (suc k) y missing here named = by (eqb x.name name) missing (λ later. place_from-absent (first + 1) xs name k y later here named)
   where
-  by : (b : Bool) → cond b (Some first) (place_from (first + 1) xs name) ≡ None → (place_from (first + 1) xs name ≡ None → ⊥) → ⊥
-  by true e later = absurd cc
-  by false e later = later e
+    by : (b : Bool) → cond b (Some first) (place_from (first + 1) xs name) ≡ None → (place_from (first + 1) xs name ≡ None → ⊥) → ⊥
+    by true e later = absurd cc
+    by false e later = later e
 
 pub place_of-None : (first : ℕ) (ds : List Decl) (name : ℕ) → place_from first ds name ≡ None → place_of ds name ≡ length ds
 unfolding place_of
 place_of-None first [] name missing = refl
 place_of-None first (x ∷ xs) name missing = by (eqb x.name name) missing (place_of-None (first + 1) xs name)
   where
-  by : (b : Bool) → cond b (Some first) (place_from (first + 1) xs name) ≡ None → (place_from (first + 1) xs name ≡ None → place_of xs name ≡ length xs) → cond b 0 (place_of xs name + 1) ≡ suc (length xs)
-  by true e later = absurd cc
-  by false e later = let r = later e in omega arith
+    by : (b : Bool) → cond b (Some first) (place_from (first + 1) xs name) ≡ None → (place_from (first + 1) xs name ≡ None → place_of xs name ≡ length xs) → cond b 0 (place_of xs name + 1) ≡ suc (length xs)
+    by true e later = absurd cc
+    by false e later = let r = later e in omega arith
 
 pub not_below : (n : ℕ) → ltb n n ≡ false
 not_below n = le-ltb n n (omega arith)
@@ -101,15 +101,15 @@ not_below n = le-ltb n n (omega arith)
 pub place_below-table : (ds : List Decl) (name place : ℕ) → place ≡ unwrap_or (place_in ds name) (length ds) → place_below place (length ds) ≡ place_in ds name
 place_below-table ds name place is = ap (λ p. place_below p (length ds)) is ∙ by (place_in ds name) refl
   where
-  by : (o : Option ℕ) → place_in ds name ≡ o → place_below (unwrap_or o (length ds)) (length ds) ≡ o
-  by None missing = ap (λ b. cond b (Some (length ds)) None) (not_below (length ds))
-  by (Some p) found =
-      let at = place_from-Some 0 ds name p found in
-      ap (λ b. cond b (Some p) None) (lt-ltb p (length ds) (omega (arith, at.is, at.within)))
+    by : (o : Option ℕ) → place_in ds name ≡ o → place_below (unwrap_or o (length ds)) (length ds) ≡ o
+    by None missing = ap (λ b. cond b (Some (length ds)) None) (not_below (length ds))
+    by (Some p) found =
+        let at = place_from-Some 0 ds name p found in
+        ap (λ b. cond b (Some p) None) (lt-ltb p (length ds) (omega (arith, at.is, at.within)))
 
 pub table_place_of : (ds : List Decl) (name : ℕ) → unwrap_or (place_in ds name) (length ds) ≡ place_of ds name
 table_place_of ds name = by (place_in ds name) refl
   where
-  by : (o : Option ℕ) → place_in ds name ≡ o → unwrap_or o (length ds) ≡ place_of ds name
-  by None missing = sym (place_of-None 0 ds name missing)
-  by (Some p) found = let at = place_from-Some 0 ds name p found in omega (arith, at.is, at.lookup)
+    by : (o : Option ℕ) → place_in ds name ≡ o → unwrap_or o (length ds) ≡ place_of ds name
+    by None missing = sym (place_of-None 0 ds name missing)
+    by (Some p) found = let at = place_from-Some 0 ds name p found in omega (arith, at.is, at.lookup)

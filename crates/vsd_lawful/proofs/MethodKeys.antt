@@ -37,9 +37,10 @@ key_eq-Decides a b m n p q =
     let names = slice_eq-Decides unsigned_Decides a.name.now b.name.now (pointwise nat_eq a.name.now b.name.now) refl in
     let results = result_eq-Decides a.result b.result m.signature.result n.signature.result p.result q.result in
     let arguments = slice_eq-Decides term_eq-Decides a.arguments.now b.arguments.now (pointwise term_eq a.arguments.now b.arguments.now) refl in
-    let all = Decides-and _ _ names (Decides-and _ _ results arguments) in
-    (λ h. let w = all.0 h in (sym p.name ∙ w.0 ∙ q.name, same_signature m.signature n.signature w.1.0 (sym p.arguments ∙ w.1.1 ∙ q.arguments)),
-    λ s. all.1 (p.name ∙ s.0 ∙ sym q.name, (ap (λ (s : Signature). s.result) s.1, p.arguments ∙ ap (λ (s : Signature). s.arguments) s.1 ∙ sym q.arguments)))
+    let all = Decides-and _ _ names (Decides-and _ _ results arguments) in (
+      λ h. let w = all.0 h in (sym p.name ∙ w.0 ∙ q.name, same_signature m.signature n.signature w.1.0 (sym p.arguments ∙ w.1.1 ∙ q.arguments)),
+      λ s. all.1 (p.name ∙ s.0 ∙ sym q.name, (ap (λ (s : Signature). s.result) s.1, p.arguments ∙ ap (λ (s : Signature). s.arguments) s.1 ∙ sym q.arguments)),
+    )
 
 -- the keys that a test finds are those of the methods before place i
 pub record AreSeen (methods : List Method) (i : ℕ) (test : Key → Bool) : Type 0 where
@@ -52,17 +53,19 @@ pub AreSeen-next : (methods : List Method) (i : ℕ) (x : Method) (k : Key) (old
 AreSeen-next methods i x k old new here key updates before = record {
   each = λ q m is.
       let d = key_eq-Decides k q x m key is in
-      let e = before.each q m is in
-      (λ h. found q m (key_eq k q) refl d e (sym (updates q) ∙ h),
-      λ r. updates q ∙ elim (Repeats-next SameMethod methods i x m here r) [ inl early ↦ any (key_eq k q) (old q) (e.1 early) | inr same ↦ ap (λ b. cond b true (old q)) (d.1 same) ])
+      let e = before.each q m is in (
+        λ h. found q m (key_eq k q) refl d e (sym (updates q) ∙ h),
+        λ r. updates q ∙ elim (Repeats-next SameMethod methods i x m here r) [ inl early ↦ any (key_eq k q) (old q) (e.1 early) | inr same ↦ ap (λ b. cond b true (old q)) (d.1 same) ],
+      );
 }
   where
-  any : (b c : Bool) → c ≡ true → cond b true c ≡ true
-  any true c e = refl
-  any false c e = e
-  found : (q : Key) (m : Method) (b : Bool) → key_eq k q ≡ b → Decides (key_eq k q) (SameMethod x m) → Decides (old q) (Repeats SameMethod methods i m) → cond b true (old q) ≡ true → Repeats SameMethod methods (i + 1) m
-  found q m true is d e h = Repeats-here SameMethod methods i x m here (d.0 is)
-  found q m false is d e h = Repeats-later SameMethod methods i m (e.0 h)
+    any : (b c : Bool) → c ≡ true → cond b true c ≡ true
+    any true c e = refl
+    any false c e = e
+
+    found : (q : Key) (m : Method) (b : Bool) → key_eq k q ≡ b → Decides (key_eq k q) (SameMethod x m) → Decides (old q) (Repeats SameMethod methods i m) → cond b true (old q) ≡ true → Repeats SameMethod methods (i + 1) m
+    found q m true is d e h = Repeats-here SameMethod methods i x m here (d.0 is)
+    found q m false is d e h = Repeats-later SameMethod methods i m (e.0 h)
 
 -- a key that isn't new is that of a method like an earlier one
 pub AreSeen-known : (methods : List Method) (i : ℕ) (test : Key → Bool) (k : Key) (m : Method) (new : Bool) → IsKeyOf k m → new ≡ not (test k) → AreSeen methods i test → Decides (not new) (Repeats SameMethod methods i m)
@@ -70,6 +73,6 @@ AreSeen-known methods i test k m new key is seen =
     let d = seen.each k m key in
     (λ h. d.0 (twice (test k) ∙ ap not (sym is) ∙ h), λ r. ap not is ∙ sym (twice (test k)) ∙ d.1 r)
   where
-  twice : (b : Bool) → b ≡ not (not b)
-  twice true = refl
-  twice false = refl
+    twice : (b : Bool) → b ≡ not (not b)
+    twice true = refl
+    twice false = refl

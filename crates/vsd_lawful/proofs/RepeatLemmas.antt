@@ -13,12 +13,12 @@ module _ {A : Type 0} (Alike : A → A → Type 0) (xs : List A) where
   pub Repeats-next : (i : ℕ) (x y : A) → slice_get xs i ≡ Some x → Repeats Alike xs (i + 1) y → Repeats Alike xs i y ⊎ Alike x y
   Repeats-next i x y here r =
       elim (cases_lt r.earlier i) [
-      inl lt ↦ inl (record { earlier = r.earlier; before = lt; other = r.other; there = r.there; alike = r.alike })
-      | inr ge ↦ inr (at_end (omega (arith, r.before)))
+        | inl lt ↦ inl (record { earlier = r.earlier; before = lt; other = r.other; there = r.there; alike = r.alike })
+        | inr ge ↦ inr (at_end (omega (arith, r.before)))
       ]
     where
-    at_end : r.earlier ≡ i → Alike x y
-    at_end e = let there = r.there in let same : r.other ≡ x = cc in subst (λ (z : A). Alike z y) same r.alike
+      at_end : r.earlier ≡ i → Alike x y
+      at_end e = let there = r.there in let same : r.other ≡ x = cc in subst (λ (z : A). Alike z y) same r.alike
 
   pub Repeats-later : (i : ℕ) (y : A) → Repeats Alike xs i y → Repeats Alike xs (i + 1) y
   Repeats-later i y r = record { earlier = r.earlier; before = omega (arith, r.before); other = r.other; there = r.there; alike = r.alike }

@@ -68,8 +68,10 @@ module _ (test : ℕ × ℕ → Bool) where
 
   module _ (P : ℕ × ℕ → Type 0) (each : (type : ℕ × ℕ) → Decides (test type) (P type)) where
     finds : (types : List (ℕ × ℕ)) → Decides (list_any test types) (Any P types)
-    finds types = (λ h. let w = Any-from_list_any test types h in (w.0, w.1, w.2, w.3, (each w.1).0 w.4),
-      λ w. list_any-from_Any test types (w.0, w.1, w.2, w.3, (each w.1).1 w.4))
+    finds types = (
+      λ h. let w = Any-from_list_any test types h in (w.0, w.1, w.2, w.3, (each w.1).0 w.4),
+      λ w. list_any-from_Any test types (w.0, w.1, w.2, w.3, (each w.1).1 w.4),
+    )
 
     -- the test of several terms finds a named type with the property
     pub any_named-Decides : (ts : List Term) → Decides (any_true (map (any_named test) ts)) (Names P ts)
@@ -83,16 +85,16 @@ module _ (ds : List Decl) where
   pub is_unknown-Decides : (type : ℕ × ℕ) → Decides (is_unknown ds type) (IsUnknown ds type)
   is_unknown-Decides type = none (declared ds type.0)
     where
-    none : (o : Option Decl) → Decides (is_none o) (o ≡ None)
-    none None = (λ _. refl, λ _. refl)
-    none (Some x) = (λ h. absurd (false≢true h), λ e. absurd cc)
+      none : (o : Option Decl) → Decides (is_none o) (o ≡ None)
+      none None = (λ _. refl, λ _. refl)
+      none (Some x) = (λ h. absurd (false≢true h), λ e. absurd cc)
 
   pub is_miscounted-Decides : (type : ℕ × ℕ) → Decides (is_miscounted ds type) (IsMiscounted ds type)
   is_miscounted-Decides type = counts (declared ds type.0)
     where
-    counts : (o : Option Decl) → Decides (miscounts o type.1) (IsSomeAnd o (λ (x : Decl). ¬ (length x.params ≡ type.1)))
-    counts None = (λ h. absurd (false≢true h), λ w. absurd w)
-    counts (Some x) = Decides-not (eqb (length x.params) type.1) (Decides-eqb (length x.params) type.1)
+      counts : (o : Option Decl) → Decides (miscounts o type.1) (IsSomeAnd o (λ (x : Decl). ¬ (length x.params ≡ type.1)))
+      counts None = (λ h. absurd (false≢true h), λ w. absurd w)
+      counts (Some x) = Decides-not (eqb (length x.params) type.1) (Decides-eqb (length x.params) type.1)
 
 -- an answer that is a test decides what the test does
 pub decides_as : (R : Type 0) (b c : Bool) → b ≡ c → Decides c R → Decides b R

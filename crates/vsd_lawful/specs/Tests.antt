@@ -1,5 +1,5 @@
 -- The tests that look at the types of terms.
-use Rattle.std.specs.Prelude.{◌≡◌, ℕ, Bool, true, false, not, nat_eq, ◌||◌, List, [], ◌∷◌, length, Option, Some, None, is_none}
+use Rattle.std.specs.Prelude.{◌≡◌, ℕ, Bool, true, false, not, nat_eq, ◌||◌, List, [], ◌∷◌, length, map, Option, Some, None, is_none}
 use Rattle.vsd_terms.specs.declared.term.Term.{Term}
 use Rattle.vsd_terms.specs.declared.term.Term.TheOpen as layer
 use Rattle.vsd_terms.specs.declared.term.Term.TheFolds.{fold-Term}
@@ -18,6 +18,10 @@ any_step test (layer.Builtin b) = false
 -- whether a named type of the term, with the number of its arguments, passes the test
 abbrev pub any_named : (ℕ × ℕ → Bool) → Term → Bool
 any_named test = fold-Term Bool (any_step test)
+
+-- the same of several terms
+abbrev pub any_among : (ℕ × ℕ → Bool) → List Term → Bool
+any_among test ts = any_true (map (any_named test) ts)
 
 abbrev pub is_unknown : List Decl → ℕ × ℕ → Bool
 is_unknown ds type = is_none (declared ds type.0)

@@ -23,7 +23,9 @@ fn is_redeclared(scope: &Scope, place: usize, decl: &Decl) -> bool
 fn is_class_name(name: &[u8]) -> bool
     ensures { IsTrue result ↔ Contains class_names name.now }
 {
-    name == b"System.Object".as_slice() || name == b"System.String".as_slice() || name == b"System.ValueType".as_slice()
+    name == b"System.Object".as_slice()
+        || name == b"System.String".as_slice()
+        || name == b"System.ValueType".as_slice()
 }
 
 fn is_repeated(params: &[Param], place: usize, param: &Param) -> bool

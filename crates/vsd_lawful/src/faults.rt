@@ -1,6 +1,6 @@
 //! Types that terms name and that are not there, or take another number of arguments.
-ghost use Rattle.std.specs.Prelude.{◌≡◌, ◌||◌, map};
-ghost use Rattle.vsd_lawful.specs.Tests.{any_named, any_true, is_unknown, is_miscounted};
+ghost use Rattle.std.specs.Prelude.{◌≡◌, ◌||◌};
+ghost use Rattle.vsd_lawful.specs.Tests.{any_among, any_named, is_unknown, is_miscounted};
 ghost use Rattle.vsd_lawful.specs.Types.{signature_terms, long_form_terms, implementer_terms, override_terms};
 
 use crate::Scope;
@@ -53,15 +53,18 @@ pub(crate) fn of_term(scope: &Scope, t: &Term) -> Faults
     ensures arity { result.arity ≡ any_named (is_miscounted scope.now.list.now) t.now }
 {
     match t {
-        Term::Named { name, args } => either(of_type(scope, *name, args.len()), of_terms(scope, args)),
+        Term::Named { name, args } => either(
+            of_type(scope, *name, args.len()),
+            of_terms(scope, args),
+        ),
         _ => NONE,
     }
 }
 
 #[cycle(faults)]
 fn of_terms(scope: &Scope, ts: &Terms) -> Faults
-    ensures unknown { result.unknown ≡ any_true (map (any_named (is_unknown scope.now.list.now)) ts.now) }
-    ensures arity { result.arity ≡ any_true (map (any_named (is_miscounted scope.now.list.now)) ts.now) }
+    ensures unknown { result.unknown ≡ any_among (is_unknown scope.now.list.now) ts.now }
+    ensures arity { result.arity ≡ any_among (is_miscounted scope.now.list.now) ts.now }
 {
     let ts = ts.as_slice();
     let mut faults = NONE;
@@ -72,8 +75,8 @@ fn of_terms(scope: &Scope, ts: &Terms) -> Faults
 }
 
 pub(crate) fn of_signature(scope: &Scope, s: &Signature) -> Faults
-    ensures unknown { result.unknown ≡ any_true (map (any_named (is_unknown scope.now.list.now)) (signature_terms s.now)) }
-    ensures arity { result.arity ≡ any_true (map (any_named (is_miscounted scope.now.list.now)) (signature_terms s.now)) }
+    ensures unknown { result.unknown ≡ any_among (is_unknown scope.now.list.now) (signature_terms s.now) }
+    ensures arity { result.arity ≡ any_among (is_miscounted scope.now.list.now) (signature_terms s.now) }
 {
     match &s.result {
         Some(t) => either(of_term(scope, t), of_terms(scope, &s.arguments)),
@@ -82,8 +85,8 @@ pub(crate) fn of_signature(scope: &Scope, s: &Signature) -> Faults
 }
 
 fn of_long_form(scope: &Scope, s: &Option<Signature>) -> Faults
-    ensures unknown { result.unknown ≡ any_true (map (any_named (is_unknown scope.now.list.now)) (long_form_terms s.now)) }
-    ensures arity { result.arity ≡ any_true (map (any_named (is_miscounted scope.now.list.now)) (long_form_terms s.now)) }
+    ensures unknown { result.unknown ≡ any_among (is_unknown scope.now.list.now) (long_form_terms s.now) }
+    ensures arity { result.arity ≡ any_among (is_miscounted scope.now.list.now) (long_form_terms s.now) }
 {
     match s {
         Some(s) => of_signature(scope, s),
@@ -92,20 +95,27 @@ fn of_long_form(scope: &Scope, s: &Option<Signature>) -> Faults
 }
 
 fn of_implementer(scope: &Scope, body: &Implementer) -> Faults
-    ensures unknown { result.unknown ≡ any_true (map (any_named (is_unknown scope.now.list.now)) (implementer_terms body.now)) }
-    ensures arity { result.arity ≡ any_true (map (any_named (is_miscounted scope.now.list.now)) (implementer_terms body.now)) }
+    ensures unknown { result.unknown ≡ any_among (is_unknown scope.now.list.now) (implementer_terms body.now) }
+    ensures arity { result.arity ≡ any_among (is_miscounted scope.now.list.now) (implementer_terms body.now) }
 {
     match body {
         Implementer::Own(_) => NONE,
-        Implementer::Named { owner, name: _, signature } => either(of_term(scope, owner), of_signature(scope, signature)),
+        Implementer::Named {
+            owner,
+            name: _,
+            signature,
+        } => either(of_term(scope, owner), of_signature(scope, signature)),
     }
 }
 
 #[tactic(auto, using(crate::proofs::TypeLemmas::any_named_append))]
 pub(crate) fn of_override(scope: &Scope, o: &Override) -> Faults
-    ensures unknown { result.unknown ≡ any_true (map (any_named (is_unknown scope.now.list.now)) (override_terms o.now)) }
-    ensures arity { result.arity ≡ any_true (map (any_named (is_miscounted scope.now.list.now)) (override_terms o.now)) }
+    ensures unknown { result.unknown ≡ any_among (is_unknown scope.now.list.now) (override_terms o.now) }
+    ensures arity { result.arity ≡ any_among (is_miscounted scope.now.list.now) (override_terms o.now) }
 {
-    let names = either(of_long_form(scope, &o.signature), of_implementer(scope, &o.body));
+    let names = either(
+        of_long_form(scope, &o.signature),
+        of_implementer(scope, &o.body),
+    );
     either(of_term(scope, &o.owner), names)
 }

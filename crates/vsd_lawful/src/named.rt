@@ -67,7 +67,10 @@ fn of_methods(scope: &Scope, methods: &[Method]) -> Lines
 {
     let mut lines = NOWHERE;
     for method in methods {
-        lines = first(lines, at(of_signature(scope, &method.signature), method.line));
+        lines = first(
+            lines,
+            at(of_signature(scope, &method.signature), method.line),
+        );
     }
     lines
 }

@@ -44,7 +44,11 @@ impl<'a> Scope<'a> {
 fn there(place: u16, count: usize) -> Option<u16>
     ensures { result ≡ place_below place count }
 {
-    if (place as usize) < count { Some(place) } else { None }
+    if (place as usize) < count {
+        Some(place)
+    } else {
+        None
+    }
 }
 
 /// The table by name, for each name that was seen.

@@ -51,9 +51,22 @@ visit-settle-requires t c =
     let are : ts ≡ targets g at = items_are t (goal.at.visit-settle-requires t c).After-as_slice-next-items in
     let step : Contains (targets g at) (get_or ts c.loop-next.next-index 0) = subst (λ (xs : List ℕ). Contains xs (get_or ts c.loop-next.next-index 0)) are (Contains-get_or ts c.loop-next.next-index 0 within) in
     let seen = unseen-open c.args.marks.now.items at (omega (arith, c.requires.within, c.requires.sound.count)) c.requires.unseen in
-    let falls : 2 * unseen c.loop-next.marks.items + 1 < t = omega (arith, c.decreases, c.loop-next.invariant.extends.fewer, seen) in
-    (falls, (c.requires.closed at (get_or ts c.loop-next.next-index 0) step, (c.requires.closed, (c.requires.small, (c.loop-next.invariant.sound,
-    λ i on. let w = LeadsTo-visit g c.args.marks.now.items c.loop-next.marks.items at c.requires.leads c.loop-next.invariant.extends i on in (w.0, Walk-push g w.0 i at (get_or ts c.loop-next.next-index 0) w.1 step))))))
+    let falls : 2 * unseen c.loop-next.marks.items + 1 < t = omega (arith, c.decreases, c.loop-next.invariant.extends.fewer, seen) in (
+      falls,
+      (
+        c.requires.closed at (get_or ts c.loop-next.next-index 0) step,
+        (
+          c.requires.closed,
+          (
+            c.requires.small,
+            (
+              c.loop-next.invariant.sound,
+              λ i on. let w = LeadsTo-visit g c.args.marks.now.items c.loop-next.marks.items at c.requires.leads c.loop-next.invariant.extends i on in (w.0, Walk-push g w.0 i at (get_or ts c.loop-next.next-index 0) w.1 step),
+            ),
+          ),
+        ),
+      ),
+    )
 
 pub visit-loop-next-preserved : goal.visit-loop-next-preserved
 visit-loop-next-preserved t c =
@@ -88,7 +101,7 @@ visit-overflow_add-level t c =
     let ts = c.as_slice-next-items.result.now in
     let past : length ts ≤ n = omega arith in
     let bound : greatest (map (level_at ms) (targets g at)) + pending ms ≤ length ms =
-        greatest-few (level_at ms) (targets g at) (pending ms) (length ms) (count_by-le-length (λ (m : Mark). not (is_level m)) ms) (λ j w. inv.sound.few j (all_done g ms at n ts past are inv.done j w)) in
+    greatest-few (level_at ms) (targets g at) (pending ms) (length ms) (count_by-le-length (λ (m : Mark). not (is_level m)) ms) (λ j w. inv.sound.few j (all_done g ms at n ts past are inv.done j w)) in
     let left = pending-level ms at 0 (omega (arith, c.requires.within, inv.sound.count)) (ap is_level inv.open_here) in
     omega (arith, bound, left, all_most g ms at n ts past are c.loop-next.most inv.most, inv.sound.count, c.requires.small)
 

@@ -16,7 +16,7 @@ loop-interface-preserved c =
     let within : i < length xs = omega arith in
     let before = interface_terms (take i xs) in
     let more : interface_terms (take (i + 1) xs) ≡ before ++ x.term ∷ [] =
-        ap interface_terms (take_more xs i x within ∙ ap (λ y. take i xs ++ y ∷ []) (sym c.interface-item.is)) ∙ map-append (λ (l : Located). l.term) (take i xs) (x ∷ []) in
+    ap interface_terms (take_more xs i x within ∙ ap (λ y. take i xs ++ y ∷ []) (sym c.interface-item.is)) ∙ map-append (λ (l : Located). l.term) (take i xs) (x ∷ []) in
     let joined : places_of ds (interface_terms (take (i + 1) xs)) ≡ places_of ds before ++ places_of ds (x.term ∷ []) =
-        ap (places_of ds) more ∙ filter_map-append (λ t. place_named ds (head_of t)) before (x.term ∷ []) in
+    ap (places_of ds) more ∙ filter_map-append (λ t. place_named ds (head_of t)) before (x.term ∷ []) in
     c.in_ok-add.ensures ∙ ap (λ ps. ps ++ places_of ds (x.term ∷ [])) c.loop-interface.invariant ∙ append_assoc old (places_of ds before) (places_of ds (x.term ∷ [])) ∙ ap (λ ps. old ++ ps) (sym joined)

@@ -25,24 +25,26 @@ compares c =
 
 pub returns-then-eq : goal.returns-then-eq
 returns-then-eq c =
-    let after = (goal.at.returns-then-eq c).After-eq in
-    (λ _. record {
-      earlier = c.loop-earlier.earlier;
-      before = omega arith;
-      other = c.index-params-earlier.result;
-      there = here after;
-      alike = (compares after).0 c.if-eq.true;
-    }, λ _. refl)
+    let after = (goal.at.returns-then-eq c).After-eq in (
+      λ _. record {
+        earlier = c.loop-earlier.earlier;
+        before = omega arith;
+        other = c.index-params-earlier.result;
+        there = here after;
+        alike = (compares after).0 c.if-eq.true;
+      },
+      λ _. refl,
+    )
 
 pub loop-earlier-preserved : goal.loop-earlier-preserved
 loop-earlier-preserved c = λ k q below there same.
     let after = (goal.at.loop-earlier-preserved c).After-eq in
     let other : k ≡ c.loop-earlier.earlier → ⊥ = λ e.
-        let read : slice_get c.args.params.now k ≡ Some c.index-params-earlier.result = ap (slice_get c.args.params.now) e ∙ here after in
-        let is : q ≡ c.index-params-earlier.result = cc in
-        false≢true (sym c.if-eq.false ∙ (compares after).1 (sym (ap (λ (p : Param). p.name) is) ∙ same)) in
+    let read : slice_get c.args.params.now k ≡ Some c.index-params-earlier.result = ap (slice_get c.args.params.now) e ∙ here after in
+    let is : q ≡ c.index-params-earlier.result = cc in
+    false≢true (sym c.if-eq.false ∙ (compares after).1 (sym (ap (λ (p : Param). p.name) is) ∙ same)) in
     elim (cases_lt k c.loop-earlier.earlier) [
-      inl lt ↦ c.loop-earlier.invariant k q lt there same
+      | inl lt ↦ c.loop-earlier.invariant k q lt there same
       | inr ge ↦ other (omega arith)
     ]
 

@@ -12,7 +12,7 @@ returns-in-Some-clause-unknown c =
     let ds = c.args.scope.now.list.now in
     let b = c.in-Some.base in
     let least = IsLeast-shown (Names (IsUnknown ds) (b.term ∷ [])) c.of_term.result.unknown b.line c.at.result.unknown c.at.ensures.unknown
-        (decides_as (Names (IsUnknown ds) (b.term ∷ [])) c.of_term.result.unknown _ c.of_term.ensures.unknown (one_named-Decides (is_unknown ds) (IsUnknown ds) (is_unknown-Decides ds) b.term)) in
+    (decides_as (Names (IsUnknown ds) (b.term ∷ [])) c.of_term.result.unknown _ c.of_term.ensures.unknown (one_named-Decides (is_unknown ds) (IsUnknown ds) (is_unknown-Decides ds) b.term)) in
     subst (λ (base : Option Located). IsLeast (BaseNames (IsUnknown ds) base) c.at.result.unknown) (sym c.in-Some.is) least
 
 pub returns-in-Some-clause-arity : goal.returns-in-Some-clause-arity
@@ -20,5 +20,5 @@ returns-in-Some-clause-arity c =
     let ds = c.args.scope.now.list.now in
     let b = c.in-Some.base in
     let least = IsLeast-shown (Names (IsMiscounted ds) (b.term ∷ [])) c.of_term.result.arity b.line c.at.result.arity c.at.ensures.arity
-        (decides_as (Names (IsMiscounted ds) (b.term ∷ [])) c.of_term.result.arity _ c.of_term.ensures.arity (one_named-Decides (is_miscounted ds) (IsMiscounted ds) (is_miscounted-Decides ds) b.term)) in
+    (decides_as (Names (IsMiscounted ds) (b.term ∷ [])) c.of_term.result.arity _ c.of_term.ensures.arity (one_named-Decides (is_miscounted ds) (IsMiscounted ds) (is_miscounted-Decides ds) b.term)) in
     subst (λ (base : Option Located). IsLeast (BaseNames (IsMiscounted ds) base) c.at.result.arity) (sym c.in-Some.is) least

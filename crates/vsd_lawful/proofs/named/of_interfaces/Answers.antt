@@ -17,11 +17,11 @@ loop-interface-preserved c =
     let there : slice_get xs i ≡ Some x = slice_get-get_or xs i x within ∙ ap Some (sym c.interface-item.is) in
     record {
       unknown = IsLeast-next xs (InterfaceNames (IsUnknown ds)) i x c.loop-interface.lines.unknown c.at.result.unknown c.first-lines.result.unknown c.first-lines.ensures.unknown there c.loop-interface.invariant.unknown
-        (IsLeast-shown (Names (IsUnknown ds) (x.term ∷ [])) c.of_term.result.unknown x.line c.at.result.unknown c.at.ensures.unknown
-        (decides_as (Names (IsUnknown ds) (x.term ∷ [])) c.of_term.result.unknown _ c.of_term.ensures.unknown (one_named-Decides (is_unknown ds) (IsUnknown ds) (is_unknown-Decides ds) x.term)));
+          (IsLeast-shown (Names (IsUnknown ds) (x.term ∷ [])) c.of_term.result.unknown x.line c.at.result.unknown c.at.ensures.unknown
+          (decides_as (Names (IsUnknown ds) (x.term ∷ [])) c.of_term.result.unknown _ c.of_term.ensures.unknown (one_named-Decides (is_unknown ds) (IsUnknown ds) (is_unknown-Decides ds) x.term)));
       arity = IsLeast-next xs (InterfaceNames (IsMiscounted ds)) i x c.loop-interface.lines.arity c.at.result.arity c.first-lines.result.arity c.first-lines.ensures.arity there c.loop-interface.invariant.arity
-        (IsLeast-shown (Names (IsMiscounted ds) (x.term ∷ [])) c.of_term.result.arity x.line c.at.result.arity c.at.ensures.arity
-        (decides_as (Names (IsMiscounted ds) (x.term ∷ [])) c.of_term.result.arity _ c.of_term.ensures.arity (one_named-Decides (is_miscounted ds) (IsMiscounted ds) (is_miscounted-Decides ds) x.term)));
+          (IsLeast-shown (Names (IsMiscounted ds) (x.term ∷ [])) c.of_term.result.arity x.line c.at.result.arity c.at.ensures.arity
+          (decides_as (Names (IsMiscounted ds) (x.term ∷ [])) c.of_term.result.arity _ c.of_term.ensures.arity (one_named-Decides (is_miscounted ds) (IsMiscounted ds) (is_miscounted-Decides ds) x.term)));
     }
 
 pub returns-clause-unknown : goal.returns-clause-unknown

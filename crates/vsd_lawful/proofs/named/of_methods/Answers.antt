@@ -17,11 +17,11 @@ loop-method-preserved c =
     let there : slice_get xs i ≡ Some x = slice_get-get_or xs i x within ∙ ap Some (sym c.method-item.is) in
     record {
       unknown = IsLeast-next xs (MethodNames (IsUnknown ds)) i x c.loop-method.lines.unknown c.at.result.unknown c.first-lines.result.unknown c.first-lines.ensures.unknown there c.loop-method.invariant.unknown
-        (IsLeast-shown (Names (IsUnknown ds) (signature_terms x.signature)) c.of_signature.result.unknown x.line c.at.result.unknown c.at.ensures.unknown
-        (decides_as (Names (IsUnknown ds) (signature_terms x.signature)) c.of_signature.result.unknown _ c.of_signature.ensures.unknown (any_named-Decides (is_unknown ds) (IsUnknown ds) (is_unknown-Decides ds) (signature_terms x.signature))));
+          (IsLeast-shown (Names (IsUnknown ds) (signature_terms x.signature)) c.of_signature.result.unknown x.line c.at.result.unknown c.at.ensures.unknown
+          (decides_as (Names (IsUnknown ds) (signature_terms x.signature)) c.of_signature.result.unknown _ c.of_signature.ensures.unknown (any_named-Decides (is_unknown ds) (IsUnknown ds) (is_unknown-Decides ds) (signature_terms x.signature))));
       arity = IsLeast-next xs (MethodNames (IsMiscounted ds)) i x c.loop-method.lines.arity c.at.result.arity c.first-lines.result.arity c.first-lines.ensures.arity there c.loop-method.invariant.arity
-        (IsLeast-shown (Names (IsMiscounted ds) (signature_terms x.signature)) c.of_signature.result.arity x.line c.at.result.arity c.at.ensures.arity
-        (decides_as (Names (IsMiscounted ds) (signature_terms x.signature)) c.of_signature.result.arity _ c.of_signature.ensures.arity (any_named-Decides (is_miscounted ds) (IsMiscounted ds) (is_miscounted-Decides ds) (signature_terms x.signature))));
+          (IsLeast-shown (Names (IsMiscounted ds) (signature_terms x.signature)) c.of_signature.result.arity x.line c.at.result.arity c.at.ensures.arity
+          (decides_as (Names (IsMiscounted ds) (signature_terms x.signature)) c.of_signature.result.arity _ c.of_signature.ensures.arity (any_named-Decides (is_miscounted ds) (IsMiscounted ds) (is_miscounted-Decides ds) (signature_terms x.signature))));
     }
 
 pub returns-clause-unknown : goal.returns-clause-unknown

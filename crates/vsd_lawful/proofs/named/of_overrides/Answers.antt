@@ -17,11 +17,11 @@ loop-given-preserved c =
     let there : slice_get xs i ≡ Some x = slice_get-get_or xs i x within ∙ ap Some (sym c.given-item.is) in
     record {
       unknown = IsLeast-next xs (OverrideNames (IsUnknown ds)) i x c.loop-given.lines.unknown c.at.result.unknown c.first-lines.result.unknown c.first-lines.ensures.unknown there c.loop-given.invariant.unknown
-        (IsLeast-shown (Names (IsUnknown ds) (override_terms x)) c.of_override.result.unknown x.line c.at.result.unknown c.at.ensures.unknown
-        (decides_as (Names (IsUnknown ds) (override_terms x)) c.of_override.result.unknown _ c.of_override.ensures.unknown (any_named-Decides (is_unknown ds) (IsUnknown ds) (is_unknown-Decides ds) (override_terms x))));
+          (IsLeast-shown (Names (IsUnknown ds) (override_terms x)) c.of_override.result.unknown x.line c.at.result.unknown c.at.ensures.unknown
+          (decides_as (Names (IsUnknown ds) (override_terms x)) c.of_override.result.unknown _ c.of_override.ensures.unknown (any_named-Decides (is_unknown ds) (IsUnknown ds) (is_unknown-Decides ds) (override_terms x))));
       arity = IsLeast-next xs (OverrideNames (IsMiscounted ds)) i x c.loop-given.lines.arity c.at.result.arity c.first-lines.result.arity c.first-lines.ensures.arity there c.loop-given.invariant.arity
-        (IsLeast-shown (Names (IsMiscounted ds) (override_terms x)) c.of_override.result.arity x.line c.at.result.arity c.at.ensures.arity
-        (decides_as (Names (IsMiscounted ds) (override_terms x)) c.of_override.result.arity _ c.of_override.ensures.arity (any_named-Decides (is_miscounted ds) (IsMiscounted ds) (is_miscounted-Decides ds) (override_terms x))));
+          (IsLeast-shown (Names (IsMiscounted ds) (override_terms x)) c.of_override.result.arity x.line c.at.result.arity c.at.ensures.arity
+          (decides_as (Names (IsMiscounted ds) (override_terms x)) c.of_override.result.arity _ c.of_override.ensures.arity (any_named-Decides (is_miscounted ds) (IsMiscounted ds) (is_miscounted-Decides ds) (override_terms x))));
     }
 
 pub returns-clause-unknown : goal.returns-clause-unknown
