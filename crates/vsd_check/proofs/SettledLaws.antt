@@ -51,9 +51,9 @@ module _ (d : Decls) where
   earliest_in pass s h before = record {
     shows = h.shows.1;
     earliest = λ t w. elim (cases_order (pass_of s.cause) (pass_of t.cause)) [
-      inl same ↦ inr (same, h.first t (sym same ∙ h.shows.0, w))
+      | inl same ↦ inr (same, h.first t (sym same ∙ h.shows.0, w))
       | inr other ↦ elim other [
-        inl less ↦ inl less
+        | inl less ↦ inl less
         | inr more ↦ absurd (before (pass_of t.cause) (omega (arith, h.shows.0)) t (refl, w))
       ]
     ];
@@ -82,14 +82,14 @@ module _ (d : Decls) where
   pub lawful_by_passes : NoneIn d 1 → NoneIn d 2 → NoneIn d 3 → AreLawful d
   lawful_by_passes first second third c line shows = by c line shows
     where
-    by : (c : Cause) (line : ℕ) → ¬ Shows d c line
-    by Twice line w = silent Twice first line w
-    by UnknownType line w = silent UnknownType first line w
-    by Arity line w = silent Arity first line w
-    by VariantClass line w = silent VariantClass first line w
-    by Cycle line w = silent Cycle second line w
-    by BadBase line w = silent BadBase second line w
-    by BadInterface line w = silent BadInterface second line w
-    by VarianceMisplaced line w = silent VarianceMisplaced third line w
-    by OverridesFinal line w = silent OverridesFinal third line w
-    by AbstractInConcrete line w = silent AbstractInConcrete third line w
+      by : (c : Cause) (line : ℕ) → ¬ Shows d c line
+      by Twice line w = silent Twice first line w
+      by UnknownType line w = silent UnknownType first line w
+      by Arity line w = silent Arity first line w
+      by VariantClass line w = silent VariantClass first line w
+      by Cycle line w = silent Cycle second line w
+      by BadBase line w = silent BadBase second line w
+      by BadInterface line w = silent BadInterface second line w
+      by VarianceMisplaced line w = silent VarianceMisplaced third line w
+      by OverridesFinal line w = silent OverridesFinal third line w
+      by AbstractInConcrete line w = silent AbstractInConcrete third line w

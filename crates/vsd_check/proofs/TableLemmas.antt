@@ -14,7 +14,7 @@ use Rattle.vsd_lawful.proofs.IndexLemmas.{table_place_of}
 module _ (ds : List Decl) (places : List ℕ) (name : ℕ) (index : IsIndex ds places) (there : place_of ds name < length ds) where
   pub name_within : name < length places
   name_within = elim (cases_lt name (length places)) [
-    inl lt ↦ lt
+    | inl lt ↦ lt
     | inr ge ↦ (let e = sym (get_or_past places name (length ds) ge) ∙ index.each name ∙ table_place_of ds name in absurd (omega arith))
   ]
 

@@ -14,6 +14,10 @@ pub(crate) fn sooner(found: Option<Shown>, cause: Cause, line: Option<u32>) -> O
     };
     match found {
         None => Some(Shown { line, cause }),
-        Some(found) => Some(if line < found.line { Shown { line, cause } } else { found }),
+        Some(found) => Some(if line < found.line {
+            Shown { line, cause }
+        } else {
+            found
+        }),
     }
 }

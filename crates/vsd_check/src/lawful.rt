@@ -18,7 +18,11 @@ pub(crate) struct Lawfulness {
     pub variant: Option<u32>,
 }
 
-pub(crate) fn first_pass(alloc: Global, decls: &Decls, scope: &Scope) -> Result<Lawfulness, AllocError>
+pub(crate) fn first_pass(
+    alloc: Global,
+    decls: &Decls,
+    scope: &Scope,
+) -> Result<Lawfulness, AllocError>
     requires well_formed { AreWellFormed decls.now }
     requires scope { scope.now.list.now ≡ decls.now.list }
     ensures twice { IfOk result (λ found. IsLeast (TwiceAt decls.now) found.twice) }

@@ -5,7 +5,6 @@ mod checked;
 mod checking;
 mod earliest;
 mod lawful;
-
 mod overriding;
 mod refusal;
 mod settling;

@@ -16,7 +16,10 @@ use std::alloc::Global;
 use vsd_ast::Decls;
 use vsd_least::earlier;
 use vsd_lift::Hierarchy;
-use vsd_roots::{Place, abstract_bodies, abstract_in_concrete, misplaced_variance, overridden, overrides_final, roots};
+use vsd_roots::{
+    Place, abstract_bodies, abstract_in_concrete, misplaced_variance, overridden, overrides_final,
+    roots,
+};
 
 /// The first line of each condition on variance and on the methods of classes.
 #[derive(Clone, Copy)]

@@ -74,7 +74,7 @@ module _ {A : Type 0} (xs : List A) (Q : ℕ → A → ℕ → Type 0) where
   IsLeast-past i x (Some found) line here at_line sooner before = record {
     has = (let w = before.has in record { place = w.place; element = w.element; there = w.there; shows = (omega (arith, w.shows.0), w.shows.1) });
     least = λ n w. elim (cases_lt w.place i) [
-      inl lt ↦ before.least n (record { place = w.place; element = w.element; there = w.there; shows = (lt, w.shows.1) })
+      | inl lt ↦ before.least n (record { place = w.place; element = w.element; there = w.there; shows = (lt, w.shows.1) })
       | inr ge ↦ omega (arith, at_line n (at_end i x n here w (omega (arith, w.shows.0))))
     ];
   }
