@@ -1,5 +1,5 @@
 -- What shows in each pass, cause by cause.
-use Rattle.std.proofs.Common.{◌≡◌, ℕ, ◌<◌, ◌≤◌, Option, Some, None, ◌⊎◌, inl, inr, refl, sym, ap, subst, ◌∙◌, arith}
+use Rattle.std.proofs.Common.{◌≡◌, ℕ, ◌≤◌, Option, None, ◌⊎◌, inl, inr, refl, sym, ap, subst, arith}
 use Rattle.vsd_ast.specs.declared.declarations.Decls.{Decls}
 use Rattle.vsd_least.specs.Least.{IsLeast}
 use Rattle.vsd_check.specs.Conditions.{TwiceAt, UnknownAt, ArityAt, CycleAt, BadBaseAt, BadInterfaceAt, MisplacedAt, VariantAt, FinalOverriddenAt, AbstractAt, Shows, ShowsIn}

@@ -1,5 +1,5 @@
 -- What passes that show nothing tell.
-use Rattle.std.proofs.Common.{◌≡◌, ℕ, ◌<◌, ◌≤◌, List, length, get_or, Option, Some, None, ◌⊎◌, inl, inr, refl, sym, ap, subst, ◌∙◌, arith, Contains}
+use Rattle.std.proofs.Common.{◌≡◌, ℕ, ◌<◌, List, Some, None, inl, inr, refl, sym, ap, ◌∙◌, arith, Contains}
 use Rattle.std.specs.List.{slice_get}
 use Rattle.std.proofs.lemmas.Bool.{cases_order}
 use Rattle.std.proofs.lemmas.Option.{slice_get-get_or}
@@ -16,7 +16,7 @@ use Rattle.vsd_hierarchy.proofs.CycleLemmas.{cycle_shows}
 use Rattle.vsd_hierarchy.proofs.PlacedLemmas.{IsHierarchy-none}
 use Rattle.vsd_check.specs.Conditions.{Shows, ShowsIn, NoneIn, IsEarliest, AreLawful}
 use Rattle.vsd_check.specs.Earliest.{IsFirst}
-use Rattle.vsd_check.specs.Refusals.{pass_of, ComesFirst}
+use Rattle.vsd_check.specs.Refusals.{pass_of}
 use Rattle.vsd_check.specs.declared.refusal.Cause.{Cause}
 use Rattle.vsd_check.specs.declared.refusal.Cause.TheVariants.{Twice, UnknownType, Arity, Cycle, BadBase, BadInterface, VarianceMisplaced, VariantClass, OverridesFinal, AbstractInConcrete}
 use Rattle.vsd_check.specs.declared.refusal.Shown.{Shown}

@@ -1,5 +1,5 @@
 -- The conditions that lawful declarations don't show.
-use Rattle.std.specs.Prelude.{◌≡◌, ℕ, ◌<◌}
+use Rattle.std.specs.Prelude.{◌≡◌, ℕ}
 use Rattle.vsd_least.specs.Least.{AtSome}
 use Rattle.vsd_ast.specs.declared.declarations.Decls.{Decls}
 use Rattle.vsd_lawful.specs.Twice.{ShowsTwice}

@@ -1,5 +1,5 @@
 -- The first of what shows in one pass.
-use Rattle.std.specs.Prelude.{◌≡◌, ℕ, cond, nat_lt, Option, Some, None, IfSome}
+use Rattle.std.specs.Prelude.{ℕ, cond, nat_lt, Option, Some, None, IfSome}
 use Rattle.std.specs.Option.{IsSomeAnd}
 use Rattle.vsd_check.specs.Refusals.{NoLater}
 use Rattle.vsd_check.specs.declared.refusal.Cause.{Cause}

@@ -1,5 +1,5 @@
 -- Graphs: for each place the places that one step leads to.
-use Rattle.std.specs.Prelude.{◌≡◌, ℕ, ◌<◌, zero, suc, List, [], length, map, All, Contains, slice_index_or}
+use Rattle.std.specs.Prelude.{◌≡◌, ℕ, ◌<◌, zero, suc, List, [], length, map, Contains, slice_index_or}
 use Rattle.vsd_terms.specs.Size.{greatest}
 
 abbrev pub targets : List (List ℕ) → ℕ → List ℕ

@@ -1,5 +1,5 @@
 -- How marking goes on: what becomes seen is reached, and what becomes seen is followed.
-use Rattle.std.specs.Prelude.{◌≡◌, ℕ, ◌≤◌, ◌⊎◌, suc, Bool, true, false, not, List, length, Contains, slice_index_or, count_by, IsTrue}
+use Rattle.std.specs.Prelude.{◌≡◌, ℕ, ◌≤◌, ◌⊎◌, suc, Bool, true, false, not, List, length, Contains, slice_index_or, count_by}
 use Rattle.vsd_graph.specs.Graph.{targets, Walk}
 
 abbrev pub is_seen : List Bool → ℕ → Bool

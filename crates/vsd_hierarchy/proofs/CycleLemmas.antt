@@ -1,9 +1,9 @@
 -- Where bases and interfaces are of the right kinds, a walk upward that comes back is one by bases or by interfaces alone.
-use Rattle.std.proofs.Common.{◌≡◌, ℕ, ◌+◌, ◌<◌, zero, suc, Bool, true, false, List, [], ◌∷◌, length, map, get_or, Option, Some, None, IsSome, IsTrue, cond, ◌⊎◌, inl, inr, refl, sym, ap, ◌∙◌, subst, arith, Contains}
+use Rattle.std.proofs.Common.{◌≡◌, ℕ, ◌<◌, zero, suc, Bool, true, false, List, [], ◌∷◌, length, get_or, Option, Some, None, IsSome, IsTrue, cond, ◌⊎◌, inl, inr, refl, sym, ap, ◌∙◌, subst, arith, Contains}
 use Rattle.std.specs.List.{slice_get}
 use Rattle.std.specs.Option.{IsSomeAnd}
 use Rattle.vsd_least.specs.Least.{AtSome}
-use Rattle.std.proofs.lemmas.Bool.{false≢true, true≢false}
+use Rattle.std.proofs.lemmas.Bool.{true≢false}
 use Rattle.vsd_terms.specs.declared.term.Term.{Term}
 use Rattle.vsd_ast.specs.declared.declarations.Decl.{Decl}
 use Rattle.vsd_ast.specs.declared.declarations.Located.{Located}
@@ -12,7 +12,7 @@ use Rattle.vsd_ast.specs.Lookup.{Head, named, head_of, declared, is_value_type}
 use Rattle.vsd_graph.specs.Graph.{Walk, ReachesItself, IsCyclic, targets}
 use Rattle.vsd_hierarchy.specs.Cycles.{followed, interface_terms, places_of, graph_of, ShowsCycle}
 use Rattle.vsd_hierarchy.specs.Kinds.{HasBadBase, IsUnfit, IsNoInterface}
-use Rattle.vsd_hierarchy.proofs.EdgeLemmas.{IsNamedPlace, IsEdge, edge_from, step_from, targets_at, above_cases}
+use Rattle.vsd_hierarchy.proofs.EdgeLemmas.{IsNamedPlace, edge_from, step_from, targets_at, above_cases}
 
 abbrev interface_in : Option Decl → Bool
 interface_in None = false

@@ -1,6 +1,6 @@
 -- Levels of the graph upward are depths, and with depths no walk comes back.
-use Rattle.std.proofs.Common.{◌≡◌, ℕ, ◌+◌, ◌<◌, ◌≤◌, zero, suc, max, List, [], ◌∷◌, length, map, get_or, Option, Some, None, refl, sym, ap, ◌∙◌, subst, arith, Contains}
-use Rattle.std.specs.List.{slice_get, filter_map, cons_option}
+use Rattle.std.proofs.Common.{◌≡◌, ℕ, ◌+◌, ◌<◌, ◌≤◌, zero, suc, max, List, [], ◌∷◌, length, map, get_or, Option, Some, None, refl, ap, ◌∙◌, arith, Contains}
+use Rattle.std.specs.List.{cons_option}
 use Rattle.std.proofs.lemmas.List.{length-map, get_or_past}
 use Rattle.std.proofs.lemmas.Option.{slice_get_within}
 use Rattle.vsd_terms.specs.Size.{greatest}
@@ -12,7 +12,7 @@ use Rattle.vsd_graph.specs.Graph.{AreLevels, Walk, ReachesItself, targets}
 use Rattle.vsd_lawful.specs.Index.{place_in}
 use Rattle.vsd_lawful.proofs.IndexLemmas.{place_from-Some, place_of-None}
 use Rattle.vsd_hierarchy.specs.Cycles.{followed, place_named, places_of, graph_of}
-use Rattle.vsd_hierarchy.proofs.EdgeLemmas.{edge_from, step_from, targets_at, followed_above}
+use Rattle.vsd_hierarchy.proofs.EdgeLemmas.{edge_from, targets_at, followed_above}
 
 module _ (ds : List Decl) (levels : List ℕ) (count : length levels ≡ length ds) where
   abbrev level_of : Option ℕ → ℕ

@@ -1,14 +1,12 @@
 -- Declarations that show none of the conditions so far lie above and below one another without a cycle.
-use Rattle.std.proofs.Common.{◌≡◌, ℕ, ◌+◌, ◌<◌, zero, suc, Bool, true, false, ◌&&◌, ◌||◌, not, List, [], ◌∷◌, ◌++◌, length, map, get_or, Option, Some, None, IsSome, IsTrue, IfSome, All, ◌⊎◌, inl, inr, refl, sym, ap, ◌∙◌, subst, arith, Contains, eqb}
-use Rattle.std.specs.List.{slice_get, Any, flat_map, list_any}
-use Rattle.std.specs.Option.{IsSomeAnd, is_none}
-use Rattle.std.proofs.lemmas.Bool.{false≢true, cases_order}
+use Rattle.std.proofs.Common.{◌≡◌, ℕ, Bool, true, false, ◌&&◌, ◌||◌, not, List, [], ◌∷◌, length, map, Option, Some, None, refl, sym, ap, ◌∙◌, eqb}
+use Rattle.std.specs.Option.{is_none}
+use Rattle.std.proofs.lemmas.Bool.{false≢true}
 use Rattle.std.proofs.lemmas.List.{length-map}
 use Rattle.vsd_terms.specs.declared.term.Term.{Term}
-use Rattle.vsd_terms.specs.declared.term.Builtin.{Builtin as Kind}
 use Rattle.vsd_terms.specs.declared.term.Term.TheFolds.{fold-roll-Term}
 use Rattle.vsd_terms.specs.declared.term.Term.TheOpen as layer
-use Rattle.vsd_terms.specs.declared.term.Term.TheVariants.{Named, Param, Builtin, rolls-Named, rolls-Param, rolls-Builtin}
+use Rattle.vsd_terms.specs.declared.term.Term.TheVariants.{Named, rolls-Named, rolls-Param, rolls-Builtin}
 use Rattle.vsd_terms.proofs.Induction.{term_induction}
 use Rattle.vsd_ast.specs.declared.declarations.Decl.{Decl}
 use Rattle.vsd_ast.specs.Lookup.{declared, is_lawful, lawful_step, takes, all_true}

@@ -1,13 +1,13 @@
 -- Declarations that show none of the conditions so far are a hierarchy, at the depths that were found.
-use Rattle.std.proofs.Common.{◌≡◌, ℕ, ◌+◌, ◌<◌, Bool, true, false, List, [], ◌∷◌, ◌++◌, length, map, get_or, Option, Some, None, IsSome, IsTrue, IfSome, All, ◌⊎◌, inl, inr, refl, sym, ap, ◌∙◌, subst, arith, slice_index_or}
+use Rattle.std.proofs.Common.{◌≡◌, ℕ, ◌<◌, Bool, true, false, List, [], ◌∷◌, length, map, get_or, Option, Some, None, IsSome, IsTrue, IfSome, All, ◌⊎◌, inl, inr, refl, sym, ap, ◌∙◌, subst}
 use Rattle.std.specs.List.{slice_get}
-use Rattle.std.specs.Option.{IsSomeAnd, is_some}
+use Rattle.std.specs.Option.{IsSomeAnd}
 use Rattle.std.proofs.lemmas.Bool.{false≢true, cases_order}
-use Rattle.std.proofs.lemmas.List.Elements.{All-append, All-map, All-nil, All-cons, All-get_or}
+use Rattle.std.proofs.lemmas.List.Elements.{All-append, All-map, All-nil, All-cons}
 use Rattle.std.proofs.lemmas.Option.{slice_get-get_or, slice_get_within, get_or_from_slice_get}
 use Rattle.vsd_terms.specs.declared.term.Term.{Term}
 use Rattle.vsd_terms.specs.declared.term.Builtin.{Builtin as Kind}
-use Rattle.vsd_terms.specs.declared.term.Builtin.TheVariants.{Object, String, ValueType, Bool as Boolean, Char, Int8, Int16, Int32, Int64, Uint8, Uint16, Uint32, Uint64, Float32, Float64}
+use Rattle.vsd_terms.specs.declared.term.Builtin.TheVariants.{Object, String, ValueType}
 use Rattle.vsd_terms.specs.declared.term.Term.TheFolds.{fold-roll-Term}
 use Rattle.vsd_terms.specs.declared.term.Term.TheOpen as layer
 use Rattle.vsd_terms.specs.declared.term.Term.TheVariants.{Named, Param, Builtin, rolls-Named, rolls-Param, rolls-Builtin}
@@ -17,7 +17,7 @@ use Rattle.vsd_ast.specs.declared.declarations.Decls.{Decls}
 use Rattle.vsd_ast.specs.declared.declarations.Located.{Located}
 use Rattle.vsd_ast.specs.Hierarchy.{above, base_terms, AreDepths, IsBase, IsInterface, IsPlaced, IsHierarchy}
 use Rattle.vsd_ast.specs.Lookup.{Head, named, parameter, built_in, head_of, head_step, declared, is_lawful, takes, is_value_type}
-use Rattle.vsd_ast.specs.WellFormed.{AreWellFormed, IsDeclaration, IsClassHead, IsClassBuiltin, IsClassWritten}
+use Rattle.vsd_ast.specs.WellFormed.{AreWellFormed, IsDeclaration, IsClassHead, IsClassWritten}
 use Rattle.vsd_least.specs.Least.{AtSome}
 use Rattle.vsd_lawful.specs.Twice.{ShowsTwice}
 use Rattle.vsd_lawful.specs.Types.{Names, IsUnknown, IsMiscounted, ShowsUnknown, ShowsArity}

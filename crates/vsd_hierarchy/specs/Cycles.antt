@@ -1,7 +1,7 @@
 -- Declarations as a graph: which declarations each one names.
-use Rattle.std.specs.Prelude.{◌≡◌, ℕ, cond, List, [], ◌++◌, map, Option, Some, None, filter_map}
+use Rattle.std.specs.Prelude.{◌≡◌, ℕ, cond, List, map, Option, None, filter_map}
 use Rattle.vsd_terms.specs.declared.term.Term.{Term}
-use Rattle.vsd_ast.specs.Hierarchy.{above, base_terms}
+use Rattle.vsd_ast.specs.Hierarchy.{base_terms}
 use Rattle.vsd_ast.specs.Lookup.{Head, named, parameter, built_in, head_of}
 use Rattle.vsd_ast.specs.declared.declarations.Decl.{Decl}
 use Rattle.vsd_ast.specs.declared.declarations.Located.{Located}

@@ -1,5 +1,5 @@
 -- What the tests of types find: a named type in the terms.
-use Rattle.std.proofs.Common.{◌≡◌, ℕ, Bool, true, false, not, ◌||◌, eqb, List, [], ◌∷◌, ◌++◌, length, map, Option, Some, None, refl, sym, ap, ◌∙◌}
+use Rattle.std.proofs.Common.{◌≡◌, ℕ, Bool, true, false, ◌||◌, eqb, List, [], ◌∷◌, ◌++◌, length, map, Option, Some, None, refl, sym, ap, ◌∙◌}
 use Rattle.std.specs.Bool.{Decides}
 use Rattle.std.specs.List.{Any, list_any, flat_map}
 use Rattle.std.specs.Option.{IsSomeAnd, is_none}
@@ -10,11 +10,10 @@ use Rattle.std.proofs.lemmas.List.Folds.{Any-from_list_any, list_any-from_Any, l
 use Rattle.vsd_ast.specs.declared.declarations.Decl.{Decl}
 use Rattle.vsd_ast.specs.Lookup.{declared}
 use Rattle.vsd_terms.proofs.Induction.{term_induction}
-use Rattle.vsd_terms.specs.declared.term.Builtin.{Builtin as Kind}
 use Rattle.vsd_terms.specs.declared.term.Term.{Term}
 use Rattle.vsd_terms.specs.declared.term.Term.TheFolds.{fold-roll-Term}
 use Rattle.vsd_terms.specs.declared.term.Term.TheOpen as layer
-use Rattle.vsd_terms.specs.declared.term.Term.TheVariants.{Named, Param, Builtin, rolls-Named, rolls-Param, rolls-Builtin}
+use Rattle.vsd_terms.specs.declared.term.Term.TheVariants.{Named, rolls-Named, rolls-Param, rolls-Builtin}
 use Rattle.vsd_lawful.specs.Tests.{any_named, any_step, any_true, is_unknown, is_miscounted, miscounts}
 use Rattle.vsd_lawful.specs.Types.{named_in, named_step, Names, IsUnknown, IsMiscounted}
 

@@ -1,5 +1,5 @@
 -- The tests that look at the types of terms.
-use Rattle.std.specs.Prelude.{◌≡◌, ℕ, Bool, true, false, not, nat_eq, ◌||◌, List, [], ◌∷◌, length, map, Option, Some, None, is_none}
+use Rattle.std.specs.Prelude.{ℕ, Bool, false, not, nat_eq, ◌||◌, List, [], ◌∷◌, length, map, Option, Some, None, is_none}
 use Rattle.vsd_terms.specs.declared.term.Term.{Term}
 use Rattle.vsd_terms.specs.declared.term.Term.TheOpen as layer
 use Rattle.vsd_terms.specs.declared.term.Term.TheFolds.{fold-Term}

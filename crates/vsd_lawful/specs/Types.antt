@@ -1,5 +1,5 @@
 -- The types that a declaration names are declared, and have as many arguments as they take (II.7.3, II.9.4).
-use Rattle.std.specs.Prelude.{◌≡◌, ℕ, ◌+◌, List, [], ◌∷◌, ◌++◌, ◌⊎◌, length, Option, Some, None, Any}
+use Rattle.std.specs.Prelude.{◌≡◌, ℕ, List, [], ◌∷◌, ◌++◌, ◌⊎◌, length, Option, Some, None, Any}
 use Rattle.std.specs.List.{flat_map}
 use Rattle.std.specs.Option.{IsSomeAnd, option_to_list}
 use Rattle.vsd_terms.specs.declared.term.Term.{Term}

@@ -1,4 +1,3 @@
-use Rattle.std.proofs.Common.{◌≡◌, ℕ, List, length}
 use Rattle.vsd_check.proofs.SettledLaws.{lawful_by_passes}
 use Rattle.vsd_check.proofs.TableLemmas.{IsSettled-tables}
 use Rattle.vsd_check.proofs.checking.examine.Goals as goal

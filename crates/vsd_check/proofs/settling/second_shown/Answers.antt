@@ -1,4 +1,4 @@
-use Rattle.std.proofs.Common.{◌≡◌, List, subst}
+use Rattle.std.proofs.Common.{List, subst}
 use Rattle.vsd_ast.specs.declared.declarations.Decl.{Decl}
 use Rattle.vsd_hierarchy.specs.Cycles.{ShowsCycle}
 use Rattle.vsd_least.specs.Least.{IsLeast, AtSome}

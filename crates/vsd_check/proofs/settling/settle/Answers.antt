@@ -1,4 +1,4 @@
-use Rattle.std.proofs.Common.{◌≡◌, ℕ, List, Option, Some, None, MatchOption, sym, subst}
+use Rattle.std.proofs.Common.{◌≡◌, ℕ, List, Option, Some, None, MatchOption, subst}
 use Rattle.std.specs.Global.{Vec}
 use Rattle.vsd_ast.specs.Hierarchy.{above, AreDepths}
 use Rattle.vsd_ast.specs.declared.declarations.Decl.{Decl}
@@ -6,7 +6,6 @@ use Rattle.vsd_graph.specs.Graph.{IsCyclic}
 use Rattle.vsd_hierarchy.specs.Cycles.{graph_of}
 use Rattle.vsd_check.specs.Conditions.{NoneIn, ShowsIn}
 use Rattle.vsd_check.specs.Earliest.{IsFirst}
-use Rattle.vsd_check.specs.declared.refusal.Shown.{Shown}
 use Rattle.vsd_check.proofs.SettledLaws.{none_in, not_cyclic, settled}
 use Rattle.vsd_check.proofs.settling.settle.Goals as goal
 use Rattle.vsd_check.proofs.settling.settle.Goals.{In_default-2}

@@ -1,5 +1,4 @@
-use Rattle.std.proofs.Common.{◌≡◌, ℕ, ◌<◌, ◌≤◌, ◌+◌, ◌*◌, suc, map, Contains, get_or, length, [], Some, refl, sym, ap, ◌∙◌, subst, arith, List, not, take}
-use Rattle.std.proofs.Math.ListN.{length-set}
+use Rattle.std.proofs.Common.{◌≡◌, ℕ, ◌<◌, ◌≤◌, ◌+◌, ◌*◌, suc, map, Contains, get_or, length, [], refl, sym, ap, ◌∙◌, subst, arith, List, not, take}
 use Rattle.std.proofs.lemmas.List.{get_or_read, take_all}
 use Rattle.std.proofs.lemmas.List.Elements.{Contains-get_or}
 use Rattle.std.proofs.lemmas.List.Sums.{count_by-le-length}
@@ -7,8 +6,8 @@ use Rattle.vsd_terms.specs.Size.{greatest}
 use Rattle.vsd_graph.specs.declared.levels.Mark.{Mark}
 use Rattle.vsd_graph.specs.declared.levels.Mark.TheVariants.{Unseen, Open, Level}
 use Rattle.vsd_graph.specs.Graph.{targets}
-use Rattle.vsd_graph.specs.Marks.{mark_at, is_level, level_at, HasLevel, is_unseen, AreSound, LeadsTo, LeadsOnTo, unseen, pending}
-use Rattle.vsd_graph.proofs.MarkLemmas.{AreSound-open, AreSound-level, Extends-trans, Extends-same, Extends-visit, LeadsTo-visit, Walk-push, mark_at-same, mark_at-other, unseen-open, unseen-level, pending-level, ord_max-max, done_more, most_more, greatest-few}
+use Rattle.vsd_graph.specs.Marks.{mark_at, is_level, level_at, HasLevel, is_unseen, unseen, pending}
+use Rattle.vsd_graph.proofs.MarkLemmas.{AreSound-open, AreSound-level, Extends-trans, Extends-same, Extends-visit, LeadsTo-visit, Walk-push, mark_at-same, unseen-open, pending-level, ord_max-max, done_more, most_more, greatest-few}
 use Rattle.vsd_graph.proofs.levels.+settle.Goals as goal
 use Rattle.vsd_graph.proofs.levels.+settle.Goals.{visit-After-as_slice-next-items, visit-After-loop-next}
 

@@ -1,5 +1,5 @@
 -- Each call looks at fewer places that aren't seen. The targets so far have levels, of which the greatest is kept.
-use Rattle.std.proofs.Common.{◌≡◌, ℕ, ◌+◌, ◌*◌, ◌<◌, map, take, slice_set, Contains}
+use Rattle.std.proofs.Common.{◌≡◌, ℕ, ◌+◌, ◌*◌, map, take, slice_set, Contains}
 use Rattle.vsd_terms.specs.Size.{greatest}
 use Rattle.vsd_graph.specs.Marks.{AreSound, Extends, HasLevel, level_at, mark_at, unseen}
 use Rattle.vsd_graph.specs.declared.levels.Mark.TheVariants.{Open}

@@ -1,4 +1,4 @@
-use Rattle.std.proofs.Common.{◌≡◌, ℕ, List, map, sym, ap, ◌∙◌, subst, arith}
+use Rattle.std.proofs.Common.{ℕ, List, map, sym, ap, ◌∙◌, subst, arith}
 use Rattle.vsd_graph.specs.Graph.{AreLevels}
 use Rattle.vsd_graph.specs.Marks.{level_in}
 use Rattle.vsd_graph.proofs.LevelLemmas.{AreLevels-marks}

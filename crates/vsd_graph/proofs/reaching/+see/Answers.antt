@@ -1,9 +1,9 @@
-use Rattle.std.proofs.Common.{◌≡◌, ℕ, ◌<◌, ◌≤◌, ◌+◌, ◌*◌, true, false, List, [], length, take, get_or, Contains, refl, sym, ap, ◌∙◌, subst, arith}
+use Rattle.std.proofs.Common.{◌≡◌, ℕ, ◌<◌, ◌≤◌, ◌*◌, false, List, [], length, get_or, Contains, refl, sym, ◌∙◌, subst, arith}
 use Rattle.std.proofs.lemmas.List.{get_or_read, take_all}
 use Rattle.std.proofs.lemmas.List.Elements.{Contains-get_or}
 use Rattle.vsd_graph.specs.Graph.{targets}
 use Rattle.vsd_graph.specs.Seen.{is_seen, unseen_count}
-use Rattle.vsd_graph.proofs.SeenLemmas.{Sees-follow, Marks-next, targets-next, unseen-set}
+use Rattle.vsd_graph.proofs.SeenLemmas.{Sees-follow, Marks-next, targets-next}
 use Rattle.vsd_graph.proofs.reaching.+see.Goals as goal
 use Rattle.vsd_graph.proofs.reaching.+see.Goals.{follow-After-as_slice-next-items}
 

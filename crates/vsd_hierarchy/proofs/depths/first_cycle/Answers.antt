@@ -1,4 +1,4 @@
-use Rattle.std.proofs.Common.{◌≡◌, ℕ, Option, Some, IfSome, subst}
+use Rattle.std.proofs.Common.{ℕ, Option, IfSome, subst}
 use Rattle.std.specs.Global.{Vec}
 use Rattle.vsd_ast.specs.Hierarchy.{AreDepths}
 use Rattle.vsd_least.specs.Least.{AtSome}

@@ -1,12 +1,8 @@
-use Rattle.std.proofs.Common.{◌≡◌, ℕ, ◌+◌, ◌<◌, ◌≤◌, ◌↔◌, List, Option, Some, None, IsTrue, length, inl, inr, sym, ◌∙◌, subst, arith}
-use Rattle.std.specs.List.{slice_get}
-use Rattle.std.specs.Option.{IsSomeAnd}
-use Rattle.std.proofs.lemmas.Bool.{cases_lt}
+use Rattle.std.proofs.Common.{ℕ, ◌<◌, ◌↔◌, List, IsTrue, length, sym, subst, arith}
 use Rattle.std.proofs.lemmas.List.{length-map}
 use Rattle.std.proofs.lemmas.Option.{slice_get_within}
 use Rattle.vsd_ast.specs.declared.declarations.Decl.{Decl}
 use Rattle.vsd_graph.specs.Graph.{IsClosed, ReachesItself}
-use Rattle.vsd_least.specs.Least.{IsLeast, AtSome, Until}
 use Rattle.vsd_least.proofs.LeastLaws.{IsLeast-next, IsLeast-shown, IsLeast-past}
 use Rattle.vsd_hierarchy.specs.Cycles.{followed, graph_of, places_of, ShowsCycle}
 use Rattle.vsd_hierarchy.proofs.EdgeLemmas.{IsClosed-graph_of}

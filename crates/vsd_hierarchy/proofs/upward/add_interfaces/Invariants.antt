@@ -1,7 +1,6 @@
 -- What is there so far is what the interfaces so far give.
-use Rattle.std.proofs.Common.{◌≡◌, ◌++◌, map, take}
-use Rattle.vsd_ast.specs.Hierarchy.{above}
-use Rattle.vsd_hierarchy.specs.Cycles.{followed, places_of, interface_terms}
+use Rattle.std.proofs.Common.{◌≡◌, ◌++◌, take}
+use Rattle.vsd_hierarchy.specs.Cycles.{places_of, interface_terms}
 use Rattle.vsd_hierarchy.proofs.upward.add_interfaces.Given as goal
 
 abbrev pub invariant-loop-interface : goal.invariant-loop-interface

@@ -1,7 +1,6 @@
 -- What is there so far is what the declarations so far give.
-use Rattle.std.proofs.Common.{◌≡◌, ◌++◌, map, take}
-use Rattle.vsd_ast.specs.Hierarchy.{above}
-use Rattle.vsd_hierarchy.specs.Cycles.{followed, places_of, interface_terms}
+use Rattle.std.proofs.Common.{◌≡◌, map, take}
+use Rattle.vsd_hierarchy.specs.Cycles.{followed, places_of}
 use Rattle.vsd_hierarchy.proofs.upward.followed_graph.Given as goal
 
 abbrev pub invariant-loop-decl : goal.invariant-loop-decl

@@ -1,11 +1,11 @@
-use Rattle.std.proofs.Common.{◌≡◌, ℕ, ◌<◌, ◌≤◌, ◌↔◌, Bool, true, false, not, eqb, IsTrue, List, Some, sym, refl, ◌∙◌, arith}
+use Rattle.std.proofs.Common.{◌≡◌, ℕ, ◌↔◌, Bool, true, false, not, eqb, IsTrue, List, Some, sym, refl, ◌∙◌, arith}
 use Rattle.std.specs.List.{slice_get}
 use Rattle.std.proofs.lemmas.Bool.{false≢true, eqb-true}
 use Rattle.std.proofs.lemmas.Bool.Decides.{Decides-eqb}
 use Rattle.vsd_ast.specs.declared.declarations.Decl.{Decl}
 use Rattle.vsd_lawful.specs.Index.{place_in}
 use Rattle.vsd_lawful.specs.Twice.{Repeats, SameName}
-use Rattle.vsd_lawful.proofs.IndexLemmas.{IsPlaceOf, place_from-Some, place_from-least, place_from-absent}
+use Rattle.vsd_lawful.proofs.IndexLemmas.{place_from-Some, place_from-least, place_from-absent}
 use Rattle.vsd_lawful.proofs.duplicates.is_redeclared.Goals as goal
 
 -- the first of the name stands elsewhere exactly where an earlier one has the name

@@ -1,4 +1,4 @@
-use Rattle.std.proofs.Common.{refl, inl, inr}
+use Rattle.std.proofs.Common.{refl, inl}
 use Rattle.vsd_lawful.proofs.duplicates.is_twice.Goals as goal
 
 pub returns-then-is_redeclared : goal.returns-then-is_redeclared

@@ -1,4 +1,4 @@
-use Rattle.std.proofs.Common.{◌≡◌, ℕ, List, subst}
+use Rattle.std.proofs.Common.{◌≡◌, List, subst}
 use Rattle.vsd_least.proofs.LeastLaws.{IsLeast-earlier, IsLeast-shown}
 use Rattle.vsd_least.specs.Least.{AtSome, IsLeast}
 use Rattle.vsd_ast.specs.declared.declarations.Method.{Method}

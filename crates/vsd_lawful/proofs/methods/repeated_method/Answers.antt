@@ -1,12 +1,11 @@
-use Rattle.std.proofs.Common.{◌≡◌, ◌<◌, ℕ, Some, length, not, sym, ap, ◌∙◌, arith}
+use Rattle.std.proofs.Common.{◌≡◌, ◌<◌, Some, length, not, sym, ap, ◌∙◌, arith}
 use Rattle.std.specs.Bool.{Decides}
 use Rattle.std.specs.HashSet.{contains}
 use Rattle.std.specs.List.{list_any, slice_get}
 use Rattle.std.proofs.lemmas.Option.{slice_get-get_or}
-use Rattle.vsd_least.specs.Least.{IsLeast, AtSome}
 use Rattle.vsd_least.proofs.LeastLaws.{IsLeast-start, IsLeast-next, IsLeast-shown, IsLeast-end}
 use Rattle.vsd_lawful.specs.Twice.{Repeats, SameMethod, RepeatsMethod}
-use Rattle.vsd_lawful.proofs.MethodKeys.{AreSeen, AreSeen-start, AreSeen-next, AreSeen-known, key_eq}
+use Rattle.vsd_lawful.proofs.MethodKeys.{AreSeen-start, AreSeen-next, AreSeen-known, key_eq}
 use Rattle.vsd_lawful.proofs.methods.repeated_method.Goals as goal
 
 pub loop-method-init : goal.loop-method-init

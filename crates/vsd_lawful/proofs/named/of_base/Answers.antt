@@ -1,4 +1,4 @@
-use Rattle.std.proofs.Common.{◌≡◌, [], ◌∷◌, Option, Some, sym, subst}
+use Rattle.std.proofs.Common.{[], ◌∷◌, Option, sym, subst}
 use Rattle.vsd_least.specs.Least.{IsLeast}
 use Rattle.vsd_least.proofs.LeastLaws.{IsLeast-shown}
 use Rattle.vsd_ast.specs.declared.declarations.Located.{Located}

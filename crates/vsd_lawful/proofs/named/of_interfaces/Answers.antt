@@ -3,7 +3,7 @@ use Rattle.std.specs.List.{slice_get}
 use Rattle.std.proofs.lemmas.Option.{slice_get-get_or}
 use Rattle.vsd_least.proofs.LeastLaws.{IsLeast-next, IsLeast-shown, IsLeast-end}
 use Rattle.vsd_lawful.specs.Tests.{is_unknown, is_miscounted}
-use Rattle.vsd_lawful.specs.Types.{InterfaceNames, Names, IsUnknown, IsMiscounted, signature_terms, override_terms}
+use Rattle.vsd_lawful.specs.Types.{InterfaceNames, Names, IsUnknown, IsMiscounted}
 use Rattle.vsd_lawful.proofs.TypeLemmas.{one_named-Decides, is_unknown-Decides, is_miscounted-Decides, decides_as}
 use Rattle.vsd_lawful.proofs.named.of_interfaces.Goals as goal
 

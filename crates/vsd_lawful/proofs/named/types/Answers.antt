@@ -1,4 +1,4 @@
-use Rattle.std.proofs.Common.{◌≡◌, ℕ, ◌⊎◌, List, subst}
+use Rattle.std.proofs.Common.{◌⊎◌, List, subst}
 use Rattle.vsd_least.specs.Least.{IsLeast, AtSome}
 use Rattle.vsd_least.proofs.LeastLaws.{IsLeast-earlier}
 use Rattle.vsd_ast.specs.declared.declarations.Located.{Located}

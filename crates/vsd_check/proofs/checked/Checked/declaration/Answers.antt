@@ -1,5 +1,4 @@
-use Rattle.std.proofs.Common.{◌≡◌, ℕ, ◌<◌, List, length, get_or, sym, ap, ◌∙◌, subst}
-use Rattle.vsd_ast.specs.Lookup.{place_of}
+use Rattle.std.proofs.Common.{ℕ, ◌<◌, List, length, sym, ap, subst}
 use Rattle.vsd_ast.specs.declared.declarations.Decls.{Decls}
 use Rattle.vsd_check.specs.Checked.{decls_of}
 use Rattle.vsd_check.specs.Value.{Value}

@@ -1,4 +1,4 @@
-use Rattle.std.proofs.Common.{◌≡◌, ℕ, List, Option, Some, None, IsSome, sym, ap, ◌∙◌, subst, refl}
+use Rattle.std.proofs.Common.{◌≡◌, List, Option, Some, None, IsSome, sym, ap, subst, refl}
 use Rattle.std.specs.Option.{IsSomeAnd}
 use Rattle.vsd_ast.specs.declared.declarations.Decls.{Decls}
 use Rattle.vsd_roots.specs.Methods.{Tabulates, entry}

@@ -1,6 +1,5 @@
-use Rattle.std.proofs.Common.{◌≡◌, ◌<◌, ◌≤◌, cond, get_or, length, Some, None, sym, ap, ◌∙◌, arith}
+use Rattle.std.proofs.Common.{◌≤◌, cond, get_or, length, Some, None, sym, ap, ◌∙◌, arith}
 use Rattle.std.proofs.lemmas.List.{get_or_default, get_or_past}
-use Rattle.vsd_lawful.specs.Index.{place_below}
 use Rattle.vsd_lawful.proofs.IndexLemmas.{place_below-table, not_below}
 use Rattle.vsd_lawful.proofs.scope.Scope.place.Goals as goal
 
