@@ -1,5 +1,5 @@
 //! Standard input and output: the trusted edge. What they give and take isn't told.
-ghost use Rattle.std.specs.Prelude.{ℕ, None, length, IfErr, ◌≢◌};
+ghost use Rattle.std.specs.Prelude.{◌≡◌, ◌≢◌, ℕ, None, IfErr};
 ghost use Rattle.std.specs.Io.{ReadsAtMost, WritesAtMost};
 ghost use Rattle.std.specs.IoError.{error_kind};
 ghost use Rattle.std.specs.declared.io.ErrorKind.{ErrorKind};
@@ -18,7 +18,9 @@ pub struct StdSource {
 
 impl StdSource {
     /// Standard input, as the runtime gives it, without a fault so far.
-    pub fn new(input: Stdin) -> StdSource {
+    pub fn new(input: Stdin) -> StdSource
+        ensures { ⟦<StdSource as Source>⟧.faults result ≡ 0 }
+    {
         StdSource { input, faults: 0 }
     }
 }
@@ -49,7 +51,9 @@ pub struct StdSink {
 
 impl StdSink {
     /// Standard output, as the runtime gives it, without a fault so far.
-    pub fn new(output: Stdout) -> StdSink {
+    pub fn new(output: Stdout) -> StdSink
+        ensures { ⟦<StdSink as Sink>⟧.faults result ≡ 0 }
+    {
         StdSink { output, faults: 0 }
     }
 }

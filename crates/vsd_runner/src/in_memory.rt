@@ -9,8 +9,9 @@ use crate::statuses::Status;
 use std::alloc::Global;
 use vsd_outside::{MemorySink, SureSource};
 
-/// Runs over a text in memory. Into a sink with no call that is listed to fail, and with room for what the
-/// words and the text define, exactly that is written, but for want of memory.
+/// Runs over a text in memory, as `run` does over a source. Into a sink with no call that is listed to fail,
+/// and with room for what the words and the text define, exactly that is written, unless memory runs out;
+/// a read fault never comes.
 pub fn run_in_memory(alloc: Global, words: &[String], text: Vec<u8>, sink: &mut MemorySink) -> Ended
     ensures complete { (status : Status) (bytes : List ℕ)
         → Defines (spellings words.now) (take read_limit text.items) status bytes

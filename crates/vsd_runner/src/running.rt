@@ -11,9 +11,10 @@ use crate::endings::Ended;
 use crate::statuses::{Refusal, Status};
 use std::alloc::Global;
 use vsd_outside::{Failed, ReadError, Sink, Source, read_up_to, write_whole};
+use vsd_text::TEXT_LIMIT;
 
 /// How many bytes are read at most: one more than a text may have.
-const READ_LIMIT: usize = 4_194_305;
+const READ_LIMIT: usize = TEXT_LIMIT + 1;
 
 /// Reads the words, then a text from the source to its end or to one byte more than a text may have, and
 /// writes what the text answers, or the line of its first refusal. Nothing is written before that is

@@ -2,6 +2,7 @@
 use super::*;
 use std::alloc::{AllocError, Global};
 use std::test::Fail;
+use vsd_text::{LexError, TEXT_LIMIT};
 
 const PLAIN: &[u8] = b"vsd 1
 .class interface public abstract I { .method public newslot abstract virtual instance void M() cil managed { } }
@@ -73,9 +74,9 @@ fn texts(rt: HostRuntime) -> Result<(), Fail> {
     for (text, status, output) in texts {
         assert!(rt; Trial::of(text).gives(alloc, status, output)?, "{output:?}");
     }
-    let longest = spaces(alloc, 4_194_304)?;
+    let longest = spaces(alloc, TEXT_LIMIT)?;
     assert!(rt; Trial::of(&longest).gives(alloc, 3, NOT_BUILT)?);
-    let too_long = spaces(alloc, 5_000_000)?;
+    let too_long = spaces(alloc, TEXT_LIMIT + 1)?;
     assert!(rt; Trial::of(&too_long).gives(alloc, 3, b"refused 0 4 too long\n")?);
     Ok(())
 }
@@ -87,7 +88,7 @@ fn spaces(alloc: Global, size: usize) -> Result<Vec<u8>, AllocError> {
 /// The exit status of each way to end.
 #[test]
 fn statuses(rt: HostRuntime) {
-    let refused = Status::Refused(Refusal::Lex(vsd_text::LexError::TooLong));
+    let refused = Status::Refused(Refusal::Lex(LexError::TooLong));
     let numbered = [
         (Status::Done, 0),
         (Status::Words, 2),

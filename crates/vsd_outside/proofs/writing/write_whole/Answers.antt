@@ -1,7 +1,7 @@
 use Rattle.std.proofs.Common.{◌≡◌, ◌+◌, ◌-◌, ◌≤◌, Result, Ok, Err, OnErr, take, drop, length, subst, arith, ◌∙◌, length-drop}
 use Rattle.std.proofs.lemmas.List.{take-append-drop, take_rest}
 use Rattle.vsd_outside.specs.Pieces.{TakesPart}
-use Rattle.vsd_outside.proofs.Known.{append_known-nil, taken_more}
+use Rattle.vsd_outside.proofs.Known.{taken_more, taken_none}
 use Rattle.vsd_outside.proofs.writing.write_whole.Goals as goal
 
 OnErr-of : {A E P : Type 0} → (result : Result A E) → P → OnErr result P
@@ -14,7 +14,7 @@ returns-in_err-at-clause-part g c =
     let part : TakesPart (g.K.Sink.taken c.args.sink.now) (g.K.Sink.taken c.write.new.self) bytes = record {
       prefix = take c.loop-at.at bytes;
       rest = drop c.loop-at.at bytes;
-      grows = c.in_err-at.ensures.bytes ∙ (append_known-nil _ ∙ c.loop-at.invariant.taken);
+      grows = taken_none _ _ _ _ c.loop-at.invariant.taken c.in_err-at.ensures.bytes;
       whole = take-append-drop c.loop-at.at bytes;
       cut = omega (arith, length-drop c.loop-at.at bytes);
     } in

@@ -1,4 +1,4 @@
-use Rattle.std.proofs.Common.{◌≡◌, ◌⊎◌, ℕ, List, ◌++◌, length, take, Some, ap, inl, inr, ⊎_elim, arith}
+use Rattle.std.proofs.Common.{◌≡◌, ℕ, List, length, take, Some, ap, inl, inr, ⊎_elim, arith}
 use Rattle.vsd_runner.specs.Outcomes.{read_limit, text_read}
 use Rattle.vsd_runner.proofs.Runs.{unless_fault}
 use Rattle.vsd_runner.proofs.in_memory.run_in_memory.Goals as goal
