@@ -39,13 +39,15 @@ impl MemorySink {
     /// `fail`, counted from 1. With an empty list and room for what is written it never fails. The error
     /// is want of memory.
     pub fn new(alloc: Global, capacity: usize, fail: Vec<u64>) -> Result<MemorySink, AllocError>
-        ensures { IfOk result (λ sink. sink ≡ record {
+        ensures empty { IfOk result (λ sink. sink ≡ record {
           taken = [];
           capacity = capacity;
           failing = fail.items;
           calls = 0;
           faults = 0;
         }) }
+        ensures room { fail.items ≡ []
+            → IfOk result (λ sink. ⟦<MemorySink as Sink>⟧.has_room sink capacity) }
     {
         Ok(MemorySink {
             bytes: Vec::with_capacity(alloc, capacity)?,

@@ -38,13 +38,14 @@ impl MemorySource {
     /// in `fail`, counted from 1. With an empty list it never fails.
     pub fn new(bytes: Vec<u8>, chunk: usize, fail: Vec<u64>) -> MemorySource
         requires { 0 < chunk }
-        ensures { result ≡ record {
+        ensures whole { result ≡ record {
           left = bytes.items;
           chunk = chunk;
           failing = fail.items;
           calls = 0;
           faults = 0;
         } }
+        ensures sure { fail.items ≡ [] → ⟦<MemorySource as Source>⟧.never_fails result }
     {
         MemorySource {
             bytes,
@@ -113,7 +114,8 @@ impl Model for SureSource {
 impl SureSource {
     /// A source of these bytes.
     pub fn new(bytes: Vec<u8>) -> SureSource
-        ensures { result ≡ bytes.items }
+        ensures whole { result ≡ bytes.items }
+        ensures sure { ⟦<SureSource as Source>⟧.never_fails result }
     {
         SureSource { bytes, at: 0 }
     }
