@@ -1,0 +1,9 @@
+pub mod Programs
+pub mod Laws
+pub mod Words
+pub mod RowTrails
+pub mod CallTrails
+pub mod CastTrails
+pub mod UnloadTrails
+pub mod Operations
+pub mod Logs
