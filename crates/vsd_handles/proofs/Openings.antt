@@ -5,4 +5,4 @@ use Rattle.vsd_rows.specs.Opening.{IsOpening}
 use Rattle.vsd_handles.specs.OwnRows.{HasBoundNone}
 
 pub none_bound_at_opening : (v : View) → IsOpening v → HasBoundNone v
-none_bound_at_opening v opening = ap (λ (w : View). w.naming.owned) opening
+none_bound_at_opening v opening = ap (λ (w : View). w.handles.owned) opening

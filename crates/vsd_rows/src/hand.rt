@@ -1,7 +1,7 @@
 ghost use Rattle.std.specs.Prelude.{◌≡◌, ◌≤◌, map};
 ghost use Rattle.vsd_rule.specs.Layout.{handle_rows};
 ghost use Rattle.vsd_table.specs.Seating.{view_of};
-ghost use Rattle.vsd_rows.specs.Waits.{waiting_of};
+ghost use Rattle.vsd_rows.specs.Retired.{retired_row};
 
 use crate::limbo::Limbo;
 use arrayvec::ArrayVec;
@@ -16,8 +16,8 @@ pub struct Hand {
     pub cursor: u16,
     /// The rows in limbo, the oldest first.
     pub limbo: ArrayVec<Limbo, 16>,
-    pub ghost same_cursor: { cursor ≡ (view_of seated).rowing.cursor },
-    pub ghost same_limbo: { map waiting_of limbo.items ≡ (view_of seated).rowing.limbo },
+    pub ghost same_cursor: { cursor ≡ (view_of seated).rows.cursor },
+    pub ghost same_limbo: { map retired_row limbo.items ≡ (view_of seated).rows.limbo },
     pub ghost few_handles: { handle_rows (view_of seated).key.sizes ≤ 1280 },
 }
 

@@ -1,6 +1,6 @@
 pub mod Windows
 pub mod Points
-pub mod NameSteps
+pub mod HandleSteps
 pub mod Stills
 pub mod Steps
 pub mod NewSeats

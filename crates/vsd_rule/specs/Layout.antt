@@ -1,4 +1,4 @@
--- Where a table's words lie in memory, and the order in which they are numbered when they are printed.
+-- Where a table's words lie in memory, and how they are numbered when they are printed.
 -- The epoch word and each caller's epoch word lie on cache lines of their own. The words between them stay 0 and are nobody's.
 use Rattle.std.specs.Prelude.{ℕ, ◌+◌, ◌-◌, ◌*◌, ◌/◌, ◌^◌, if◌then◌else◌, nat_lt}
 use Rattle.vsd_rule.specs.declared.sizes.Sizes.{Sizes}
@@ -48,7 +48,7 @@ module _ (s : Sizes) where
   abbrev pub word_count : ℕ
   word_count = casts_from + 3 * cast_rows
 
-  -- the number of the word at a place in memory, in the order: the epoch, the callers' epoch words, and then the other words as they lie
+  -- the number of the word at an index in memory: first the epoch, then the callers' epoch words, and then the other words as they lie
   abbrev pub stated_number : ℕ → ℕ
   stated_number i = if nat_lt i counts_from then i / 8 else (i - counts_from + s.callers + 1)
 

@@ -11,11 +11,11 @@ use Rattle.vsd_words.proofs.Packings.{handle_word_packing-one_to_one}
 use Rattle.vsd_rule.specs.declared.key.Key.{Key}
 use Rattle.vsd_rule.specs.declared.view.View.{View}
 use Rattle.vsd_rule.specs.Layout.{handles_from, handle_rows}
-use Rattle.vsd_rule.specs.Names.{own_word, owned_word}
+use Rattle.vsd_rule.specs.Handles.{own_word, owned_word}
 use Rattle.vsd_rule.specs.Rule.{Rule}
-use Rattle.vsd_rule.specs.Moves.{own_place, after_load_handle, after_bind, after_unbind}
-use Rattle.vsd_rule.specs.Told.{IsOwn}
-use Rattle.vsd_rule.proofs.Steps.{load_keeps, load_tells, loaded_packing, tells_one_name, bind_keeps, bind_tells_new, unbind_keeps}
+use Rattle.vsd_rule.specs.Moves.{own_index, after_load_handle, after_bind, after_unbind}
+use Rattle.vsd_rule.specs.Facts.{IsOwn}
+use Rattle.vsd_rule.proofs.Steps.{load_keeps, load_tells, loaded_packing, tells_one_binding, bind_keeps, bind_tells_new, unbind_keeps}
 use Rattle.vsd_table.specs.Plays.{LoadedHandle, loaded_handle, Bound, bound, Unbound, unbound}
 
 -- a seat that is there is below the number of seats
@@ -39,7 +39,7 @@ module _ {S : Type 0} (k : Key) (slots id : ℕ) (me : Me S View) (key : me.0.ke
 
   pub allows_load : row < handle_rows k.sizes → Allows holds slots id me at_row (λ n. n) (loaded_handle (step slots at_row 0 0 none) me)
   allows_load small s rule homes at fits =
-      let w : HandleWord = rule.whole.names.shows row in
+      let w : HandleWord = rule.whole.handles.handle_word_of row in
       let v : View = me.0 in
       let after : View = after_load_handle v row w in
       let kept : Rule k s.words (set s.views id after) = load_keeps k s.words s.views rule id v at row small in (
@@ -53,7 +53,7 @@ module _ {S : Type 0} (k : Key) (slots id : ℕ) (me : Me S View) (key : me.0.ke
             packing = loaded_packing k s.words s.views rule id v at row small;
             view = refl;
             finds = load_tells k s.words s.views rule id v at row small;
-            one_name = tells_one_name k s.words (set s.views id after) kept id after (set_here s.views id after (below s.views id v at));
+            one_binding = tells_one_binding k s.words (set s.views id after) kept id after (set_here s.views id after (below s.views id v at));
           },
         ),
       )
@@ -65,7 +65,7 @@ module _ {S : Type 0} (k : Key) (slots id : ℕ) (me : Me S View) (key : me.0.ke
         let same = handle_word_packing-one_to_one x (own_word generation number live) (own_word g m live) packing other in
         (ap (λ (w : HandleWord). w.generation) same, ap (λ (w : HandleWord). w.number) same)
 
-    pub allows_bind : (owned_word me.0.naming (own_place me.0 row)).generation + 1 ≡ generation → number < k.world.types → IsHandleWordPacking (own_word generation number true) x
+    pub allows_bind : (owned_word me.0.handles (own_index me.0 row)).generation + 1 ≡ generation → number < k.world.types → IsHandleWordPacking (own_word generation number true) x
         → Allows holds slots id me at_row (λ _. x) (λ _. bound (step slots at_row x 0 none) me x)
     allows_bind next typed packing s rule homes at fits =
         let v : View = me.0 in
@@ -79,11 +79,11 @@ module _ {S : Type 0} (k : Key) (slots id : ℕ) (me : Me S View) (key : me.0.ke
               subst (λ (q : ℕ × ℕ × ℕ). Bound (step slots at_row x 0 none) me x (after, me.1) q.0 q.1 q.2) (λ c. (same_row other is c, same.0 c, same.1 c)) (record {
                 view = refl;
                 fresh = λ any. bind_tells_new k s.words s.views rule id v at row own generation any next;
-                one_name = tells_one_name k (set s.words at_row x) (set s.views id after) kept id after (set_here s.views id after (below s.views id v at));
+                one_binding = tells_one_binding k (set s.words at_row x) (set s.views id after) kept id after (set_here s.views id after (below s.views id v at));
               }),
         )
 
-    pub allows_unbind : (owned_word me.0.naming (own_place me.0 row)).generation ≡ generation → (owned_word me.0.naming (own_place me.0 row)).number ≡ number → IsHandleWordPacking (own_word generation number false) x
+    pub allows_unbind : (owned_word me.0.handles (own_index me.0 row)).generation ≡ generation → (owned_word me.0.handles (own_index me.0 row)).number ≡ number → IsHandleWordPacking (own_word generation number false) x
         → Allows holds slots id me at_row (λ _. x) (λ _. unbound (step slots at_row x 0 none) me x)
     allows_unbind same_generation same_number packing s rule homes at fits =
         let v : View = me.0 in
@@ -96,6 +96,6 @@ module _ {S : Type 0} (k : Key) (slots id : ℕ) (me : Me S View) (key : me.0.ke
           λ other g m is other_packing. let same = same_words false g m packing other_packing in
               subst (λ (q : ℕ × ℕ × ℕ). Unbound (step slots at_row x 0 none) me x (after, me.1) q.0 q.1 q.2) (λ c. (same_row other is c, same.0 c, same.1 c)) (record {
                 view = refl;
-                one_name = tells_one_name k (set s.words at_row x) (set s.views id after) kept id after (set_here s.views id after (below s.views id v at));
+                one_binding = tells_one_binding k (set s.words at_row x) (set s.views id after) kept id after (set_here s.views id after (below s.views id v at));
               }),
         )

@@ -1,3 +1,3 @@
-pub mod Places
+pub mod Offsets
 pub mod Plays
 pub mod Seating

@@ -8,7 +8,7 @@ use Rattle.vsd_rule.specs.Moves.{caller_view}
 use Rattle.vsd_table.specs.declared.shared.Shared.{Shared}
 use Rattle.vsd_table.specs.declared.seated.Seated.{Seated}
 
--- what the table was told when it was laid out
+-- what was fixed when the table was laid out
 abbrev pub key_of : Shared → Key
 key_of table = table.table.shared.key
 

@@ -4,8 +4,8 @@
 #![tactic(auto)]
 
 mod handles;
+mod offsets;
 mod opening;
-mod places;
 mod plays;
 mod seated;
 mod shared;

@@ -4,24 +4,24 @@ ghost use mathlib.Core.Option.{some};
 ghost use lib.ListN.{get_elem?};
 ghost use Rattle.vsd_rule.specs.declared.view.Who.TheVariants.{Root};
 ghost use Rattle.vsd_rule.specs.Sizes.{LawfulSizes};
-ghost use Rattle.vsd_rule.specs.Lists.{LawfulKey, told_key};
+ghost use Rattle.vsd_rule.specs.Lists.{LawfulKey, key_with};
 ghost use Rattle.vsd_rule.specs.Moves.{root_view, caller_view};
 ghost use Rattle.vsd_rule.specs.Opening.{host_packing};
 ghost use Rattle.vsd_table.specs.Seating.{key_of, view_of, Belongs, AreSeatsOf};
 ghost use Rattle.vsd_table.specs.declared.seated.Seated.{Seated};
 
-use crate::places::Places;
+use crate::offsets::Offsets;
 use crate::plays::NextCaller;
 use crate::seated::Seated;
-use crate::shared::{Order, Shared};
+use crate::shared::{Shared, SharedRule};
 use atomic_table::{Seat, Table};
 use std::alloc::{AllocError, Global};
 use vsd_rule::{Key, Resolver, Sizes, View, World};
 use vsd_words::HandleWord;
 
-/// What a table is told of.
+/// What a table is laid out from.
 #[derive(Drop)]
-struct Told<'a, R> {
+struct Embedder<'a, R> {
     resolver: &'a R,
     sites: &'a [u16],
     hosts: &'a [u16],
@@ -46,11 +46,11 @@ pub fn layout<R: Resolver>(
     requires hosts { length hosts.now ≡ sizes.hosts }
     requires site_tokens { EachIndex sites.now (λ i. slice_index sites.now i < sizes.tokens) }
     requires host_types { EachIndex hosts.now (λ i. slice_index hosts.now i < R.types resolver.now) }
-    ensures key { IfOk result (λ made. key_of made.0 ≡ told_key sizes (R.types resolver.now) sites.now hosts.now (R.sel resolver.now) (R.cmp resolver.now)) }
+    ensures key { IfOk result (λ made. key_of made.0 ≡ key_with sizes (R.types resolver.now) sites.now hosts.now (R.sel resolver.now) (R.cmp resolver.now)) }
     ensures count { IfOk result (λ made. length made.1.items ≡ sizes.callers) }
     ensures seats { IfOk result (λ made. AreSeatsOf made.0 made.1.items) }
 {
-    let world = World::told(&Told {
+    let world = World::of(&Embedder {
         resolver,
         sites,
         hosts,
@@ -66,29 +66,29 @@ fn lay_out(alloc: Global, key: Key, hosts: &[u16]) -> Result<(Shared, Vec<Seated
     ensures seats { IfOk result (λ made. AreSeatsOf made.0 made.1.items) }
 {
     let sizes = key.sizes;
-    let places = Places::of(sizes);
-    let words = opening_words(alloc, places, hosts)?;
+    let offsets = Offsets::of(sizes);
+    let words = opening_words(alloc, offsets, hosts)?;
     let (table, root) = Table::of_words(alloc, &words, &key)?;
     let shared = Shared {
         table,
         sizes,
-        places,
+        offsets,
     };
     let seats = shared.seats(alloc, root)?;
     Ok((shared, seats))
 }
 
 /// The words at opening: the hosts' words stand among zeros.
-fn opening_words(alloc: Global, places: Places, hosts: &[u16]) -> Result<Vec<u64>, AllocError>
-    requires { places.handles + length hosts.now ≤ places.end }
-    ensures { IfOk result (λ words. words.items ≡ replicate places.handles 0 ++ (map host_packing hosts.now ++ replicate (places.end - (places.handles + length hosts.now)) 0)) }
+fn opening_words(alloc: Global, offsets: Offsets, hosts: &[u16]) -> Result<Vec<u64>, AllocError>
+    requires { offsets.handles + length hosts.now ≤ offsets.end }
+    ensures { IfOk result (λ words. words.items ≡ replicate offsets.handles 0 ++ (map host_packing hosts.now ++ replicate (offsets.end - (offsets.handles + length hosts.now)) 0)) }
 {
     let mut words = Vec::new(alloc);
-    words.resize(places.handles, 0)?;
+    words.resize(offsets.handles, 0)?;
     for number in hosts {
         words.push(host_word(*number))?;
     }
-    words.resize(places.end, 0)?;
+    words.resize(offsets.end, 0)?;
     Ok(words)
 }
 

@@ -1,17 +1,17 @@
 ghost use Rattle.std.specs.Prelude.{◌≡◌, ◌+◌, ◌<◌};
 ghost use Rattle.vsd_rule.specs.Sizes.{LawfulSizes};
 ghost use Rattle.vsd_rule.specs.Layout.{word_count, handles_from, handle_rows};
-ghost use Rattle.vsd_table.specs.Places.{ArePlaces, SameSizes};
+ghost use Rattle.vsd_table.specs.Offsets.{AreOffsets, SameSizes};
 
-use crate::places::Places;
+use crate::offsets::Offsets;
 use atomic_table::{Table, TableRule};
 use std::alloc::Global;
 use vsd_rule::{Key, Sizes, View};
 
 /// The rule of `vsd_rule`, as the rule of a table.
-pub(crate) struct Order;
+pub(crate) struct SharedRule;
 
-impl TableRule<(), View, Key> for Order {
+impl TableRule<(), View, Key> for SharedRule {
     ghost use Rattle.vsd_rule.specs.Rule.{Rule};
     ghost use Rattle.vsd_rule.specs.Moves.{root_view};
 
@@ -23,14 +23,14 @@ impl TableRule<(), View, Key> for Order {
 /// The words that all callers share, with their sizes. The rule on them holds between any two steps.
 #[derive(Drop)]
 pub struct Shared {
-    pub(crate) table: Table<(), View, Key, Order, Global>,
+    pub(crate) table: Table<(), View, Key, SharedRule, Global>,
     pub(crate) sizes: Sizes,
-    pub(crate) places: Places,
+    pub(crate) offsets: Offsets,
     ghost lawful: { LawfulSizes sizes },
-    ghost told: { SameSizes sizes table.shared.key.sizes },
+    ghost known: { SameSizes sizes table.shared.key.sizes },
     ghost counted: { table.shared.table_id.words ≡ word_count sizes },
-    ghost placed: { ArePlaces places sizes },
-    ghost few: { places.end < 33000 },
+    ghost located: { AreOffsets offsets sizes },
+    ghost few: { offsets.end < 33000 },
 }
 
 impl Shared {
@@ -38,7 +38,7 @@ impl Shared {
 
     /// The sizes that the table was laid out with.
     pub fn sizes(&self) -> Sizes
-        ensures told { result ≡ (key_of self.now).sizes }
+        ensures known { result ≡ (key_of self.now).sizes }
         ensures lawful { LawfulSizes result }
     {
         self.sizes
@@ -46,11 +46,11 @@ impl Shared {
 
     /// Where the word of a row of handles lies.
     #[inline]
-    pub(crate) fn handle_place(&self, row: u16) -> usize
+    pub(crate) fn handle_index(&self, row: u16) -> usize
         requires { row < handle_rows (key_of self.now).sizes }
-        ensures place { result ≡ handles_from (key_of self.now).sizes + row }
+        ensures index { result ≡ handles_from (key_of self.now).sizes + row }
         ensures within { result < self.now.table.shared.table_id.words }
     {
-        self.places.handles + usize::from(row)
+        self.offsets.handles + usize::from(row)
     }
 }

@@ -17,8 +17,9 @@ pub struct Written {
     pub word: Option<CastWord>,
 }
 
-/// How a seat has a cast row in hand, from some step on: not at all at `None`.
-pub struct Grip {
+/// A cast row of which this seat made the version odd, and what it stored there since; `None` from
+/// the store on that made it even again.
+pub struct CastRowWrite {
     pub row: u32,
     pub written: Option<Written>,
 }
@@ -31,11 +32,11 @@ pub struct CastEvidence {
 }
 
 /// What a seat knows of the cast cache.
-pub struct Casting {
+pub struct CastView {
     /// Its latest look at a cast row.
     pub probe: Option<Probe>,
-    /// The cast rows in its hands: the first entry for a row counts.
-    pub grips: LinkedList<Grip>,
+    /// The cast rows that it is writing: the first entry for a row counts.
+    pub writes: LinkedList<CastRowWrite>,
     /// What it may answer casts by.
     pub evidences: LinkedList<CastEvidence>,
 }

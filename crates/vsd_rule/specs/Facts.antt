@@ -5,20 +5,20 @@ use lib.ListN.{get_elem?}
 use Rattle.vsd_words.specs.declared.handle.Handle.{Handle}
 use Rattle.vsd_words.specs.declared.handle_word.HandleWord.{HandleWord}
 use Rattle.vsd_words.specs.HandleWord.{HandleWordInRange}
-use Rattle.vsd_rule.specs.declared.naming.Naming.{Naming}
+use Rattle.vsd_rule.specs.declared.handle_view.HandleView.{HandleView}
 use Rattle.vsd_rule.specs.declared.view.View.{View}
 use Rattle.vsd_rule.specs.Layout.{first_row}
 use Rattle.vsd_rule.specs.Seats.{caller_of, is_caller}
-use Rattle.vsd_rule.specs.Names.{handle, name_for, host_word, owned_word}
-use Rattle.vsd_rule.specs.Moves.{own_place}
+use Rattle.vsd_rule.specs.Handles.{handle, binding_for, host_word, owned_word}
+use Rattle.vsd_rule.specs.Moves.{own_index}
 
 -- the seat has learnt that the handle names the type
-abbrev pub Knows : Naming → Handle → ℕ → Type 0
-Knows n h number = (i : ℕ) × (get_elem? n.names i ≡ some (name_for h number))
+abbrev pub Knows : HandleView → Handle → ℕ → Type 0
+Knows n h number = (i : ℕ) × (get_elem? n.bindings i ≡ some (binding_for h number))
 
--- all names of one handle that the seat knows are one
-abbrev pub KnowsOneName : Naming → Type 0
-KnowsOneName n = (h : Handle) (number other : ℕ) → Knows n h number → Knows n h other → number ≡ other
+-- all bindings of one handle that the seat knows are one
+abbrev pub KnowsOneBinding : HandleView → Type 0
+KnowsOneBinding n = (h : Handle) (number other : ℕ) → Knows n h number → Knows n h other → number ≡ other
 
 -- the row is one of the seat's own 64
 pub record IsOwn (v : View) (row : ℕ) : Type 0 where
@@ -30,6 +30,6 @@ pub record IsOwn (v : View) (row : ℕ) : Type 0 where
 pub record FindsHandle (v : View) (row : ℕ) (w : HandleWord) : Type 0 where
   pub in_range : HandleWordInRange w
   pub typed : 0 < w.generation → w.number < v.key.world.types
-  pub known : (number : ℕ) → Knows v.naming (handle row w.generation) number → w.number ≡ number
+  pub known : (number : ℕ) → Knows v.handles (handle row w.generation) number → w.number ≡ number
   pub host : row < v.key.sizes.hosts → w ≡ host_word v.key row
-  pub own : IsOwn v row → w ≡ owned_word v.naming (own_place v row)
+  pub own : IsOwn v row → w ≡ owned_word v.handles (own_index v row)

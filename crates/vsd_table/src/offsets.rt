@@ -1,13 +1,13 @@
 ghost use Rattle.std.specs.Prelude.{◌≡◌, ◌<◌, ◌≤◌};
 ghost use Rattle.vsd_rule.specs.Sizes.{LawfulSizes};
 ghost use Rattle.vsd_rule.specs.Layout.{cast_rows};
-ghost use Rattle.vsd_table.specs.Places.{ArePlaces};
+ghost use Rattle.vsd_table.specs.Offsets.{AreOffsets};
 
 use vsd_rule::Sizes;
 
 /// Where the words of a table lie, by purpose: the number of the first of each.
 #[derive(Clone, Copy)]
-pub(crate) struct Places {
+pub(crate) struct Offsets {
     pub(crate) counts: usize,
     pub(crate) cells: usize,
     pub(crate) rows: usize,
@@ -19,10 +19,10 @@ pub(crate) struct Places {
     pub(crate) end: usize,
 }
 
-impl Places {
-    pub(crate) fn of(sizes: Sizes) -> Places
+impl Offsets {
+    pub(crate) fn of(sizes: Sizes) -> Offsets
         requires { LawfulSizes sizes }
-        ensures places { ArePlaces result sizes }
+        ensures offsets { AreOffsets result sizes }
         ensures few { result.end < 33000 }
     {
         let counts = 8 + 8 * usize::from(sizes.callers);
@@ -32,7 +32,7 @@ impl Places {
         let handles = buckets + usize::from(sizes.buckets);
         let region = handles + usize::from(sizes.hosts) + 64 * usize::from(sizes.callers);
         let casts = region + 1;
-        Places {
+        Offsets {
             counts,
             cells,
             rows,

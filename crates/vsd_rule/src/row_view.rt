@@ -1,42 +1,42 @@
 use std::collections::LinkedList;
 use vsd_words::Handle;
 
-/// What is known of a row's handle, token and target.
-pub struct Filling {
+/// What is known of the words of a row: its handle, token and target.
+pub struct KnownWords {
     pub handle: Option<Handle>,
     pub token: Option<u16>,
     pub target: Option<u32>,
 }
 
 /// A row that a pinned seat has loaded from a cell or a bucket since it pinned, which it protects.
-pub struct Sight {
+pub struct ProtectedRow {
     pub row: u16,
     /// The site from whose cell it was loaded, if it was one.
     pub site: Option<u16>,
     /// The words of the row that it loaded.
-    pub seen: Filling,
+    pub seen: KnownWords,
 }
 
-/// How a seat has a row.
-pub enum Hold {
-    /// Not at all.
-    Away,
-    /// Claimed, and not named by a cell or a bucket since, with the words that were stored in it.
-    Fresh(Filling),
-    /// Claimed, and named by a cell or a bucket since.
-    Used,
-    /// In limbo since the load of this epoch.
-    Limbo(u64),
+/// How a seat keeps a row.
+pub enum Keeping {
+    /// Not at all: the row is free, published, or another seat keeps it.
+    Elsewhere,
+    /// Claimed and private: no cell or bucket has named it since. With the words stored in it since.
+    Private(KnownWords),
+    /// Unlinked: this seat took it out of the cell or bucket that named it.
+    Unlinked,
+    /// Retired, and in limbo since the load of this epoch.
+    Retired(u64),
 }
 
-/// How a seat has a row, from some step on.
-pub struct Held {
+/// How a seat keeps a row, from some step on.
+pub struct KeptRow {
     pub row: u16,
-    pub hold: Hold,
+    pub keeping: Keeping,
 }
 
-/// A row in limbo, with the epoch that its retirer loaded.
-pub struct Waiting {
+/// A retired row, with the epoch that its retirer loaded.
+pub struct RetiredRow {
     pub row: u16,
     pub epoch: u64,
 }
@@ -49,7 +49,7 @@ pub struct Evidence {
 }
 
 /// What a seat knows of rows, and what it does with them.
-pub struct Rowing {
+pub struct RowView {
     /// Its own epoch word: 0 where it is not pinned, else one more than the epoch at which it is.
     pub pinned: u64,
     /// What its last load of the epoch found.
@@ -57,11 +57,11 @@ pub struct Rowing {
     /// The row at which its next search for a free row begins.
     pub cursor: u16,
     /// The rows that it protects while it is pinned, the latest first.
-    pub sights: LinkedList<Sight>,
-    /// How it has each row: the first entry for a row counts, and where there is none it is away.
-    pub holds: LinkedList<Held>,
-    /// The rows in limbo, the oldest first.
-    pub limbo: LinkedList<Waiting>,
+    pub protected: LinkedList<ProtectedRow>,
+    /// How it keeps each row: the first entry for a row counts, and where there is none it does not.
+    pub kept: LinkedList<KeptRow>,
+    /// Its retired rows, the oldest first.
+    pub limbo: LinkedList<RetiredRow>,
     /// Its running sweep has passed the callers below this number.
     pub passed: u16,
     /// What it may answer calls by.

@@ -1,4 +1,4 @@
--- `told` makes a value of no bytes, whose ghost fields are the lists that the caller's proof picks.
+-- `of` makes a value of no bytes, whose ghost fields are the lists that the caller's proof picks.
 use mathlib.Core.Path.{refl}
 use mathlib.Core.List.{[], ◌∷◌}
 use seplogic.Ra.Ura.{Ura}
@@ -32,10 +32,10 @@ use denote.Triple.Spec.{Meets, triple_of}
 use denote.Triple.Table.{entered}
 use denote.Triple.Walked.{says, stay_none_ref, Stays, walk_of, Walks, ends_at, walked, Goes-none_ref, walk_Meets}
 use Rattle.vsd_rule.specs.World.{WorldLists}
-use Rattle.vsd_rule.specs.contracts.world.World.told.{ended, clauses}
-use Rattle.vsd_rule.specs.contracts.world.World.told.Key.{name as key}
-use Rattle.vsd_rule.proofs.world.World.told.Statement as stated
-use Rattle.vsd_rule.proofs.world.World.told.Code as code
+use Rattle.vsd_rule.specs.contracts.world.World.of.{ended, clauses}
+use Rattle.vsd_rule.specs.contracts.world.World.of.Key.{name as key}
+use Rattle.vsd_rule.proofs.world.World.of.Statement as stated
+use Rattle.vsd_rule.proofs.world.World.of.Code as code
 use Rattle.vsd_rule.specs.contracts.world.World as made
 
 module _ (Y : RattleType) where
@@ -86,9 +86,9 @@ module _ (Y : RattleType) (L : Laws Y) {M : Type 1} {𝓤 : Ura M} (𝓛 : Logic
       walk_Meets 𝓛 (ended Y) (stayed Y) (Goes-none_ref 𝓛 2 (0 ∷ []) tt (plain (λ _. R Y)) yes, tt) held
       (WpFn 𝓤 H 𝓣.C 𝓣.Λ (function Y)) (WpFn-mono 𝓤 H 𝓛.laws 𝓣 (function Y)) (walks 𝓣.C 𝓣.Λ)
 
-pub told_spec : {M : Type 1} → stated.statement M
+pub of_spec : {M : Type 1} → stated.statement M
 unfolding tables_of
-told_spec 𝓤 𝓛 𝓜 𝓡 wired Y laws =
+of_spec 𝓤 𝓛 𝓜 𝓡 wired Y laws =
     let A = 𝓛.A in
     let 𝓣 : Tables 𝓤 𝓛.H = tables_of 𝓤 𝓛.H 𝓜 (tables 𝓤 𝓛.H 𝓜 𝓡 𝓡.env) in
     entered 𝓤 𝓛.H (triple_of 𝓛 (ended Y).signature (closing 𝓛 (ended Y) (clauses Y 𝓛 𝓜.mem 𝓡.returns))) 𝓣.C 𝓣.Λ (key (layouts (a_type ∷ []) (Y, tt))) (function Y) (code.unfolded 𝓤 𝓛.H 𝓜 𝓡 wired (Y, tt))
