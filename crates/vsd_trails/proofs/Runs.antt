@@ -19,13 +19,24 @@ ends_once k f (ask c p) [] y ys a b r s = r
 ends_once k f (ask c p) (x ∷ xs) y ys a b r s = ends_once k (after_step k f x) (p x.step.found) xs y ys a b r.2 s.2
 
 pub joins : {A B : Type 0} (k : Key) (f : Fields) (p : Program A) (g : A → Program B) (xs ys : List TrailStep) (a : A) (b : B) → Runs k f p xs a → Runs k (after_steps k f xs) (g a) ys b → Runs k f (bind p g) (xs ++ ys) b
+unfolding bind
 joins k f (done c) g [] ys a b r s = subst (λ (v : _). Runs k f (g v) ys b) (sym r) s
 joins k f (done c) g (x ∷ xs) ys a b r s = absurd r
 joins k f (look p) g xs ys a b r s = joins k f (p f) g xs ys a b r s
 joins k f (ask c p) g [] ys a b r s = absurd r
 joins k f (ask c p) g (x ∷ xs) ys a b r s = (r.0, r.1, joins k (after_step k f x) (p x.step.found) g xs ys a b r.2 s)
 
+-- a run with its answer mapped
+pub maps : {A B : Type 0} (k : Key) (f : Fields) (p : Program A) (g : A → B) (xs : List TrailStep) (a : A) → Runs k f p xs a → Runs k f (bind p (λ b. done (g b))) xs (g a)
+unfolding bind
+maps k f (done c) g [] a r = ap g r
+maps k f (done c) g (x ∷ xs) a r = absurd r
+maps k f (look p) g xs a r = maps k f (p f) g xs a r
+maps k f (ask c p) g [] a r = absurd r
+maps k f (ask c p) g (x ∷ xs) a r = (r.0, r.1, maps k (after_step k f x) (p x.step.found) g xs a r.2)
+
 pub splits : {A B : Type 0} (k : Key) (f : Fields) (p : Program A) (g : A → Program B) (zs : List TrailStep) (b : B) → Runs k f (bind p g) zs b → TwoRuns A B k f p g zs b
+unfolding bind
 splits k f (done a) g zs b r = record { front = []; rest = zs; answer = a; whole = refl; first = refl; second = r }
 splits k f (look p) g zs b r =
     let t = splits k f (p f) g zs b r in
@@ -45,16 +56,6 @@ is_bounded n k f (ask c p) (x ∷ xs) a few r =
     let room = few.1 in
     omega arith
 
-pub more : {A : Type 0} (n m : ℕ) (p : Program A) → n ≤ m → AtMost n p → AtMost m p
-more n m (done a) le few = tt
-more n m (look p) le few = λ f. more n m (p f) le (few f)
-more n m (ask c p) le few = let room = few.1 in (few.0, omega arith, few.2)
-
-pub at_bind : {A B : Type 0} (n m : ℕ) (p : Program A) (g : A → Program B) → AtMost n p → ((a : A) → AtMost m (g a)) → AtMost (n + m) (bind p g)
-at_bind n m (done a) g few then = more m (n + m) (g a) (omega arith) (then a)
-at_bind n m (look p) g few then = λ f. at_bind n m (p f) g (few f) then
-at_bind n m (ask c p) g few then = let room = few.1 in (few.0 + m, omega arith, λ word. at_bind few.0 m (p word) g (few.2 word) then)
-
 pub makes_only : {A : Type 0} (P : Asked → Type 0) (k : Key) (f : Fields) (p : Program A) (xs : List TrailStep) (a : A) → AsksOnly P p → Runs k f p xs a → EachStep P xs
 makes_only P k f (done c) [] a only r = tt
 makes_only P k f (done c) (x ∷ xs) a only r = absurd r
@@ -63,6 +64,7 @@ makes_only P k f (ask c p) [] a only r = absurd r
 makes_only P k f (ask c p) (x ∷ xs) a only r = (subst P (sym r.0) only.0, makes_only P k (after_step k f x) (p x.step.found) xs a (only.1 x.step.found) r.2)
 
 pub asks_bind : {A B : Type 0} (P : Asked → Type 0) (p : Program A) (g : A → Program B) → AsksOnly P p → ((a : A) → AsksOnly P (g a)) → AsksOnly P (bind p g)
+unfolding bind
 asks_bind P (done a) g only then = then a
 asks_bind P (look p) g only then = λ f. asks_bind P (p f) g (only f) then
 asks_bind P (ask c p) g only then = (only.0, λ word. asks_bind P (p word) g (only.1 word) then)

@@ -17,7 +17,7 @@ use Rattle.vsd_trails.specs.declared.casting.Find.TheVariants as find
 use Rattle.vsd_trails.specs.declared.casting.Put.{Put}
 use Rattle.vsd_trails.specs.declared.casting.Put.TheVariants.{Written, Grew, Nothing}
 use Rattle.vsd_trails.specs.declared.casting.Lost.TheVariants as lost
-use Rattle.vsd_trails.specs.Programs.{Program, done, ask, bind}
+use Rattle.vsd_trails.specs.Programs.{Program, done, ask, ◌>>=◌, ◌>>◌, when◌then◌else◌}
 use Rattle.vsd_trails.specs.Words.{unpacked_handle, unpacked_cast, same_handle}
 use Rattle.vsd_trails.specs.RowTrails.{reading, loading, making, typing}
 
@@ -45,26 +45,30 @@ probed source target version s w again = if is_hit source target version s w aga
 
 -- Load a row's version, its source, its cast word, and the version again.
 unfoldable pub probing_row : Handle → Handle → ℕ → ℕ → Program Probed
-probing_row source target region row =
-    bind (loading (LoadVersion region row)) (λ version. bind (reading (LoadSource region row) unpacked_handle) (λ s.
-        bind (reading (LoadCast region row) unpacked_cast) (λ w. bind (loading (LoadVersionAgain region row)) (λ again.
-            done (probed source target version s w again)))))
+probing_row source target region row = do
+  version ← loading (LoadVersion region row)
+  s ← reading (LoadSource region row) unpacked_handle
+  w ← reading (LoadCast region row) unpacked_cast
+  again ← loading (LoadVersionAgain region row)
+  done (probed source target version s w again)
+
+-- a hit ends the look
+abbrev pub unless_hit : (ℕ → Program Find) → Probed → Program Find
+unless_hit go_on (probe_hit answer) = done (find.Hit answer)
+unless_hit go_on (probe_miss version) = go_on version
 
 -- Make so many probes, the i-th and those after it, until one hits.
 unfoldable pub probing : Handle → Handle → ℕ → ℕ → ℕ → ℕ → List ℕ → Program Find
 probing source target region home zero i versions = done (find.Miss (record { region = region; home = home; versions = versions }))
 probing source target region home (suc n) i versions =
-    bind (probing_row source target region (probe_row region home i)) (λ found.
-        elim found as (λ _. Program Find) [
-          | probe_hit answer ↦ done (find.Hit answer)
-          | probe_miss version ↦ probing source target region home n (i + 1) (versions ++ version ∷ [])
-        ])
+    probing_row source target region (probe_row region home i)
+    >>= unless_hit (λ version. probing source target region home n (i + 1) (versions ++ version ∷ []))
 
 -- Load the region, and probe eight rows of it.
 unfoldable pub finding_cast : Handle → Handle → Program Find
-finding_cast source target =
-    bind (ask (record { act = LoadRegion; begins = Some (Cast source target) }) (λ region. done region)) (λ region.
-        probing source target region (home_of source target (region_size region)) 8 0 [])
+finding_cast source target = do
+  region ← ask (record { act = LoadRegion; begins = Some (Cast source target) }) (λ word. done word)
+  probing source target region (home_of source target (region_size region)) 8 0 []
 
 -- ---- what a cast that missed writes
 
@@ -79,28 +83,34 @@ making_odd region row (suc n) = loading (ReclaimCast region row (suc n))
 
 -- Store the source, the cast word, and the next even version.
 unfoldable pub publishing : ℕ → ℕ → Handle → CastWord → ℕ → Program Put
-publishing region row source word version =
-    bind (making (SetSource region row source)) (λ (u : Unit {0}). bind (making (SetCast region row word)) (λ (u : Unit {0}).
-        bind (making (Publish region row (version + 2))) (λ (u : Unit {0}). done Written)))
+publishing region row source word version = do
+  making (SetSource region row source)
+  making (SetCast region row word)
+  making (Publish region row (version + 2))
+  done Written
 
 module _ (k : Key) (m : Miss) (source target : Handle) (answer : Bool) where
   -- Write the row of the i-th probe, where its version allows it and one exchange of it wins.
   unfoldable pub writing : ℕ → Program Put
-  writing i =
-      let version = slice_index m.versions i in
-      let row = probe_row m.region m.home i in
-      if is_busy version then done (Nothing (lost.Busy version))
-      else bind (making_odd m.region row version) (λ found.
-          if nat_eq found version then publishing m.region row source (record { target = target; yes = answer }) version else done (Nothing (lost.Claim found)))
+  writing i = do
+    let version = slice_index m.versions i
+    let row = probe_row m.region m.home i
+    when is_busy version then done (Nothing (lost.Busy version)) else do
+      found ← making_odd m.region row version
+      when nat_eq found version
+        then publishing m.region row source (record { target = target; yes = answer }) version
+        else done (Nothing (lost.Claim found))
 
   -- Try one exchange of the region to the next.
   unfoldable pub growing : Program Put
-  growing = bind (loading (Grow m.region)) (λ found. if nat_eq found m.region then done Grew else done (Nothing (lost.Grow found)))
+  growing = do
+    found ← loading (Grow m.region)
+    when nat_eq found m.region then done Grew else done (Nothing (lost.Grow found))
 
   -- The first row whose version was 0. Without one the next region, where there is one; else a row by the two handles.
   unfoldable pub putting_by : Option ℕ → Program Put
   putting_by (Some i) = writing i
-  putting_by None = if nat_lt (m.region + 1) k.sizes.regions then growing else writing ((packed_handle source + packed_handle target) % 8)
+  putting_by None = when nat_lt (m.region + 1) k.sizes.regions then growing else writing ((packed_handle source + packed_handle target) % 8)
 
   unfoldable pub putting_cast : Program Put
   putting_cast = putting_by (position (λ version. nat_eq version 0) m.versions)
@@ -110,9 +120,10 @@ module _ (k : Key) (m : Miss) (source target : Handle) (answer : Bool) where
 module _ (k : Key) (source target : Handle) where
   -- both handles are loaded, as types of these numbers
   unfoldable pub asking : Miss → ℕ → ℕ → Program (Result CastAnswer Unloaded)
-  asking m number other =
-      let answer = nat_eq (compatible k number other) 1 in
-      bind (putting_cast k m source target answer) (λ put. done (Ok (record { yes = answer; walked = true })))
+  asking m number other = do
+    let answer = nat_eq (compatible k number other) 1
+    putting_cast k m source target answer
+    done (Ok (record { yes = answer; walked = true }))
 
   unfoldable pub typing_target : Miss → ℕ → Result ℕ Unloaded → Program (Result CastAnswer Unloaded)
   typing_target m number (Err unloaded) = done (Err unloaded)
@@ -120,12 +131,12 @@ module _ (k : Key) (source target : Handle) where
 
   unfoldable pub typing_source : Miss → Result ℕ Unloaded → Program (Result CastAnswer Unloaded)
   typing_source m (Err unloaded) = done (Err unloaded)
-  typing_source m (Ok number) = bind (typing target) (typing_target m number)
+  typing_source m (Ok number) = typing target >>= typing_target m number
 
   -- On a hit its answer. Else load the source's handle word and the target's, and walk.
   unfoldable pub casting_by : Find → Program (Result CastAnswer Unloaded)
   casting_by (find.Hit answer) = done (Ok (record { yes = answer; walked = false }))
-  casting_by (find.Miss m) = bind (typing source) (typing_source m)
+  casting_by (find.Miss m) = typing source >>= typing_source m
 
   unfoldable pub casting : Program (Result CastAnswer Unloaded)
-  casting = bind (finding_cast source target) casting_by
+  casting = finding_cast source target >>= casting_by

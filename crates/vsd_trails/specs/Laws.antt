@@ -1,7 +1,9 @@
 -- The laws that hold of every program.
-use Rattle.std.specs.Prelude.{◌≡◌, ℕ, ◌≤◌, List, ◌∷◌, ◌++◌, length}
+use Rattle.std.specs.Prelude.{◌≡◌, ℕ, ◌≤◌, List, [], ◌∷◌, ◌++◌, length}
 use Rattle.vsd_rule.specs.declared.key.Key.{Key}
-use Rattle.vsd_trails.specs.Programs.{Fields, TrailStep, Asked, Program, bind, after_steps, Runs, AtMost, AsksOnly, EachStep}
+use Rattle.vsd_trails.specs.Programs.{Fields, TrailStep, Asked, Program, bind, after_steps, Runs, onto, AtMost, AsksOnly, EachStep}
+use Rattle.vsd_trails.specs.Logs.{Entry, Log, IsLog}
+use Rattle.vsd_trails.specs.Operations.{Event, begun}
 
 -- A list of steps is a run to at most one answer.
 abbrev pub HasOneAnswer : (A : Type 0) → Program A → Type 0
@@ -35,3 +37,29 @@ IsBounded A p = (n : ℕ) (k : Key) (f : Fields) (xs : List TrailStep) (a : A) �
 -- What a program asks for alone is what its runs have alone.
 abbrev pub MakesOnly : (A : Type 0) → (Asked → Type 0) → Program A → Type 0
 MakesOnly A P p = (k : Key) (f : Fields) (xs : List TrailStep) (a : A) → AsksOnly P p → Runs k f p xs a → EachStep P xs
+
+-- ---- the log
+
+-- A list of steps has at most one log.
+abbrev pub HasOneLog : Key → Type 0
+HasOneLog k = (xs : List TrailStep) (a b : Log Event) → IsLog Event k (begun k) xs a → IsLog Event k (begun k) xs b → a ≡ b
+
+-- the steps, the latest first, have this log, and none is unfinished
+abbrev pub HasLog : Key → List TrailStep → List (Entry Event) → Type 0
+HasLog k xs entries = IsLog Event k (begun k) xs (record { entries = entries; unfinished = [] })
+
+-- A whole trail adds one entry: what was done and answered, the trail, and the fields at which it began.
+abbrev pub AddsEntry : (A : Type 0) → Key → Program A → (A → Event) → Type 0
+AddsEntry A k p event = (f : Fields) (trail : List TrailStep) (answer : A) (entries : List (Entry Event)) (old : List TrailStep)
+    → HasLog k old entries → Runs k f p trail answer
+    → HasLog k (onto trail old) (record { event = event answer; trail = trail; fields = f } ∷ entries)
+
+-- A run by itself adds nothing.
+abbrev pub AddsNothing : (A : Type 0) → Key → Program A → Type 0
+AddsNothing A k p = (f : Fields) (trail : List TrailStep) (answer : A) (entries : List (Entry Event)) (old : List TrailStep)
+    → HasLog k old entries → Runs k f p trail answer → HasLog k (onto trail old) entries
+
+-- ---- bounds
+
+abbrev pub TakesAtMost : (A : Type 0) → Key → Program A → ℕ → Type 0
+TakesAtMost A k p n = (f : Fields) (trail : List TrailStep) (answer : A) → Runs k f p trail answer → length trail ≤ n

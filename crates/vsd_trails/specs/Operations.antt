@@ -12,7 +12,7 @@ use Rattle.vsd_rule.specs.declared.step.Step.{Step}
 use Rattle.vsd_trails.specs.declared.answers.Answer.{Answer}
 use Rattle.vsd_trails.specs.declared.answers.CastAnswer.{CastAnswer}
 use Rattle.vsd_trails.specs.declared.answers.Unloaded.{Unloaded}
-use Rattle.vsd_trails.specs.Programs.{TrailStep, Asked, Program, done, bind}
+use Rattle.vsd_trails.specs.Programs.{TrailStep, Asked, Program, done, ◌>>=◌, ◌>>◌}
 use Rattle.vsd_trails.specs.CallTrails.{calling}
 use Rattle.vsd_trails.specs.CastTrails.{casting}
 use Rattle.vsd_trails.specs.UnloadTrails.{binding, unloading}
@@ -26,16 +26,16 @@ pub data Event : Type 0 where
 
 module _ (k : Key) where
   unfoldable pub call_event : ℕ → Handle → Program Event
-  call_event site h = bind (calling k site h) (λ answer. done (called site h answer))
+  call_event site h = calling k site h >>= λ answer. done (called site h answer)
 
   unfoldable pub cast_event : Handle → Handle → Program Event
-  cast_event source target = bind (casting k source target) (λ answer. done (cast_to source target answer))
+  cast_event source target = casting k source target >>= λ answer. done (cast_to source target answer)
 
   unfoldable pub load_event : ℕ → ℕ → ℕ → Program Event
-  load_event row generation number = bind (binding (record { row = row; generation = generation }) number) (λ h. done (loaded number h))
+  load_event row generation number = binding (record { row = row; generation = generation }) number >>= λ h. done (loaded number h)
 
   unfoldable pub unload_event : Handle → Program Event
-  unload_event h = bind (unloading k h) (λ (u : Unit {0}). done (unloaded h))
+  unload_event h = unloading k h >> done (unloaded h)
 
   -- ---- what a step begins
 

@@ -1,7 +1,7 @@
 -- Programs over the shared table, as data, and the lists of steps that are runs of them.
-use Rattle.std.specs.Prelude.{◌≡◌, ℕ, suc, ◌+◌, ◌≤◌, nat_lt, cond, List, [], ◌∷◌, ◌++◌, drop, Option, Some, None}
+use Rattle.std.specs.Prelude.{◌≡◌, ℕ, suc, ◌+◌, ◌≤◌, nat_lt, cond, Bool, true, false, List, [], ◌∷◌, ◌++◌, drop, Option, Some, None}
 use Rattle.vsd_rule.specs.declared.key.Key.{Key}
-use Rattle.vsd_rule.specs.declared.rowing.Waiting.{Waiting}
+use Rattle.vsd_rule.specs.declared.row_view.RetiredRow.{RetiredRow}
 use Rattle.vsd_rule.specs.declared.step.Act.{Act}
 use Rattle.vsd_rule.specs.declared.step.Act.TheVariants.{LoadRow, Unbind, EpochToRetire, FreeSwept}
 use Rattle.vsd_rule.specs.declared.step.RowWord.TheVariants.{Claim}
@@ -11,7 +11,7 @@ use Rattle.vsd_rule.specs.declared.step.Step.{Step}
 -- what a view has that decides which step comes next
 pub record Fields : Type 0 where
   pub cursor : ℕ
-  pub limbo : List Waiting
+  pub limbo : List RetiredRow
 
 -- a step that was made, with what it began where no word tells it
 pub record TrailStep : Type 0 where
@@ -33,10 +33,26 @@ pub data Program (A : Type 0) : Type 0 where
   ask : Asked → (ℕ → Program A) → Program A
 
 -- one program, and then one that goes on by its answer
-abbrev pub bind : {A B : Type 0} → Program A → (A → Program B) → Program B
+unfoldable pub bind : {A B : Type 0} → Program A → (A → Program B) → Program B
 bind (done a) g = g a
 bind (look p) g = look (λ f. bind (p f) g)
 bind (ask c p) g = ask c (λ word. bind (p word) g)
+
+infixl 10 ◌>>=◌ ◌>>◌
+
+abbrev pub ◌>>=◌ : {A B : Type 0} → Program A → (A → Program B) → Program B
+p >>= g = bind p g
+
+-- one program, and then one that needs no answer of it
+abbrev pub ◌>>◌ : {A B : Type 0} → Program A → Program B → Program B
+p >> q = bind p (λ answer. q)
+
+-- one program or another, by a test
+infix 5 when◌then◌else◌
+
+unfoldable pub when◌then◌else◌ : {A : Type 0} → Bool → Program A → Program A → Program A
+when◌then◌else◌ true p q = p
+when◌then◌else◌ false p q = q
 
 -- ---- what a step is asked to be, and what it makes of the fields
 

@@ -1,9 +1,9 @@
 -- The programs of the calls on rows and handles, of which the longer ones are made.
-use Rattle.std.specs.Prelude.{ℕ, zero, suc, ◌+◌, ◌^◌, min, nat_eq, nat_lt, nat_le, Bool, true, false, List, [], ◌∷◌, length, Option, Some, None, Result, if◌then◌else◌}
+use Rattle.std.specs.Prelude.{ℕ, zero, suc, ◌+◌, ◌^◌, min, nat_eq, nat_lt, nat_le, Bool, false, List, [], ◌∷◌, length, Option, Some, None, Result}
 use Rattle.vsd_words.specs.declared.handle.Handle.{Handle}
 use Rattle.vsd_words.specs.declared.cell_word.CellWord.{CellWord}
 use Rattle.vsd_rule.specs.declared.key.Key.{Key}
-use Rattle.vsd_rule.specs.declared.rowing.Waiting.{Waiting}
+use Rattle.vsd_rule.specs.declared.row_view.RetiredRow.{RetiredRow}
 use Rattle.vsd_rule.specs.declared.step.Act.{Act}
 use Rattle.vsd_rule.specs.declared.step.Act.TheVariants.{Epoch, Pin, Unpin, Claim, SetHandle, SetToken, SetTarget, LoadRow, Free, LoadCell, LoadBucket, PutBucket, EmptyBucket, LoadHandle, EpochToRetire, Raise, EpochOf, FreeSwept}
 use Rattle.vsd_rule.specs.declared.step.RowWord.{RowWord}
@@ -14,7 +14,7 @@ use Rattle.vsd_rule.specs.declared.step.Doing.{Doing}
 use Rattle.vsd_trails.specs.declared.answers.Unloaded.{Unloaded}
 use Rattle.vsd_trails.specs.declared.answers.Swept.{Swept}
 use Rattle.vsd_trails.specs.declared.answers.Swept.TheVariants.{Empty, Blocked, Freed}
-use Rattle.vsd_trails.specs.Programs.{Fields, Program, done, look, ask, bind, next_row}
+use Rattle.vsd_trails.specs.Programs.{Program, done, look, ask, ◌>>=◌, ◌>>◌, when◌then◌else◌, next_row}
 use Rattle.vsd_trails.specs.Words.{unpacked_handle, unpacked_cell, unpacked_handle_word, unpacked_bucket, is_clear, type_by}
 
 -- ---- one step
@@ -38,7 +38,9 @@ trying act expected = reading act (λ word. nat_eq word expected)
 
 -- Load the epoch, and store one more in the own epoch word.
 unfoldable pub pinning : Doing → Program (Unit {0})
-pinning doing = ask (record { act = Epoch; begins = Some (Operation doing) }) (λ epoch. making (Pin epoch))
+pinning doing = do
+  epoch ← ask (record { act = Epoch; begins = Some (Operation doing) }) (λ word. done word)
+  making (Pin epoch)
 
 abbrev pub unpinning : Program (Unit {0})
 unpinning = making Unpin
@@ -56,18 +58,25 @@ reading_target row = loading (LoadRow row row_word.Target)
 
 -- Load the row's claim word, and where it is free try one exchange.
 unfoldable pub claiming_row : ℕ → Program Bool
-claiming_row row = bind (trying (LoadRow row row_word.Claim) 0) (λ free. if free then trying (Claim row) 0 else done false)
+claiming_row row = do
+  free ← trying (LoadRow row row_word.Claim) 0
+  when free then trying (Claim row) 0 else done false
 
 -- Try so many rows, one after another, round the end.
 unfoldable pub claiming_from : Key → ℕ → ℕ → Program (Option ℕ)
 claiming_from k zero row = done None
-claiming_from k (suc n) row = bind (claiming_row row) (λ won. if won then done (Some row) else claiming_from k n (next_row k row))
+claiming_from k (suc n) row = do
+  won ← claiming_row row
+  when won then done (Some row) else claiming_from k n (next_row k row)
 
 unfoldable pub claiming : Key → Program (Option ℕ)
 claiming k = look (λ f. claiming_from k (min 8 k.sizes.rows) f.cursor)
 
 unfoldable pub filling : ℕ → Handle → ℕ → ℕ → Program (Unit {0})
-filling row h token target = bind (making (SetHandle row h)) (λ (u : Unit {0}). bind (making (SetToken row token)) (λ (u : Unit {0}). making (SetTarget row target)))
+filling row h token target = do
+  making (SetHandle row h)
+  making (SetToken row token)
+  making (SetTarget row target)
 
 abbrev pub abandoning : ℕ → Program (Unit {0})
 abandoning row = making (Free row)
@@ -75,7 +84,7 @@ abandoning row = making (Free row)
 -- ---- limbo
 
 -- two more rows can enter limbo
-abbrev pub has_room : List Waiting → Bool
+abbrev pub has_room : List RetiredRow → Bool
 has_room limbo = nat_le (length limbo) 14
 
 abbrev pub seeing_room : Program Bool
@@ -83,7 +92,9 @@ seeing_room = look (λ f. done (has_room f.limbo))
 
 -- Load the epoch, at which the row enters limbo, and where it can rise try one exchange to the next.
 unfoldable pub retiring : ℕ → Program (Unit {0})
-retiring row = bind (loading (EpochToRetire row)) (λ epoch. if nat_lt epoch (2 ^ 62) then making (Raise epoch) else done tt)
+retiring row = do
+  epoch ← loading (EpochToRetire row)
+  when nat_lt epoch (2 ^ 62) then making (Raise epoch) else done tt
 
 -- the row that came out, if any
 abbrev pub retiring_any : Option ℕ → Program (Unit {0})
@@ -91,11 +102,15 @@ retiring_any None = done tt
 retiring_any (Some row) = retiring row
 
 -- Load the epoch words of so many callers, one after another, until one blocks the row. Where none does, free it.
-unfoldable pub passing : Waiting → ℕ → ℕ → Program Swept
-passing x zero caller = bind (making (FreeSwept x.row)) (λ (u : Unit {0}). done (Freed x.row))
-passing x (suc n) caller = bind (loading (EpochOf caller)) (λ word. if is_clear x.epoch word then passing x n (caller + 1) else done (Blocked caller word))
+unfoldable pub passing : RetiredRow → ℕ → ℕ → Program Swept
+passing x zero caller = do
+  making (FreeSwept x.row)
+  done (Freed x.row)
+passing x (suc n) caller = do
+  word ← loading (EpochOf caller)
+  when is_clear x.epoch word then passing x n (caller + 1) else done (Blocked caller word)
 
-abbrev pub sweeping_oldest : Key → List Waiting → Program Swept
+abbrev pub sweeping_oldest : Key → List RetiredRow → Program Swept
 sweeping_oldest k [] = done Empty
 sweeping_oldest k (x ∷ xs) = passing x k.sizes.callers 0
 
@@ -109,7 +124,9 @@ reading_cell site = reading (LoadCell site) unpacked_cell
 
 -- Try one exchange that takes a row out of a cell, and where it wins retire the row.
 unfoldable pub unlinking : Act → ℕ → Program (Unit {0})
-unlinking act row = bind (trying act (2 + row)) (λ won. if won then retiring row else done tt)
+unlinking act row = do
+  won ← trying act (2 + row)
+  when won then retiring row else done tt
 
 abbrev pub looking : ℕ → Program (Option ℕ)
 looking bucket = reading (LoadBucket bucket) unpacked_bucket

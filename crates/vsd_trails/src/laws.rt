@@ -1,6 +1,15 @@
 // What holds of every program. Each law is a function that does nothing and ensures it.
+ghost use Rattle.std.specs.Prelude.{ℕ, ◌+◌, ◌*◌};
+ghost use Rattle.vsd_words.specs.declared.handle.Handle.{Handle};
+ghost use Rattle.vsd_rule.specs.declared.key.Key.{Key};
+ghost use Rattle.vsd_rule.specs.declared.step.Doing.TheVariants.{Nothing};
 ghost use Rattle.vsd_trails.specs.Programs.{Program, Asked};
-ghost use Rattle.vsd_trails.specs.Laws.{HasOneAnswer, EndsOnce, Joins, Splits, IsBounded, MakesOnly};
+ghost use Rattle.vsd_trails.specs.RowTrails.{pinning, unpinning, typing, sweeping};
+ghost use Rattle.vsd_trails.specs.CallTrails.{calling};
+ghost use Rattle.vsd_trails.specs.CastTrails.{casting};
+ghost use Rattle.vsd_trails.specs.UnloadTrails.{binding, unloading};
+ghost use Rattle.vsd_trails.specs.Operations.{called, cast_to, loaded, unloaded};
+ghost use Rattle.vsd_trails.specs.Laws.{HasOneAnswer, EndsOnce, Joins, Splits, IsBounded, MakesOnly, HasOneLog, AddsEntry, AddsNothing, TakesAtMost};
 
 /// A program of which the laws speak, and one that may follow it by its answer.
 pub trait Trail {
@@ -40,4 +49,35 @@ pub fn is_bounded<T: Trail>()
 /// A run has such steps alone as the program asks for.
 pub fn makes_only<T: Trail>()
     ensures { MakesOnly T.Value T.Allows T.program }
+{}
+
+/// A list of steps has at most one log.
+pub fn has_one_log()
+    ensures { (k : Key) → HasOneLog k }
+{}
+
+/// A whole trail of an operation adds its one entry to a log in which nothing is unfinished.
+pub fn adds_one_entry()
+    ensures call { (k : Key) (site : ℕ) (h : Handle) → AddsEntry _ k (calling k site h) (called site h) }
+    ensures cast { (k : Key) (source target : Handle) → AddsEntry _ k (casting k source target) (cast_to source target) }
+    ensures load { (k : Key) (h : Handle) (number : ℕ) → AddsEntry _ k (binding h number) (loaded number) }
+    ensures unload { (k : Key) (h : Handle) → AddsEntry _ k (unloading k h) (λ u. unloaded h) }
+{}
+
+/// A pin by itself, its end, a load of a handle word by itself and a sweep by itself add nothing.
+pub fn adds_nothing()
+    ensures pin { (k : Key) → AddsNothing _ k (pinning Nothing) }
+    ensures unpin { (k : Key) → AddsNothing _ k unpinning }
+    ensures learn { (k : Key) (h : Handle) → AddsNothing _ k (typing h) }
+    ensures sweep { (k : Key) → AddsNothing _ k (sweeping k) }
+{}
+
+/// The most steps that each operation takes.
+pub fn takes_few_steps()
+    ensures call { (k : Key) (site : ℕ) (h : Handle) → TakesAtMost _ k (calling k site h) (52 + k.sizes.callers) }
+    ensures cast { (k : Key) (source target : Handle) → TakesAtMost _ k (casting k source target) 39 }
+    ensures load { (k : Key) (h : Handle) (number : ℕ) → TakesAtMost _ k (binding h number) 1 }
+    ensures unload { (k : Key) (h : Handle) → TakesAtMost _ k (unloading k h) (5 + k.sizes.callers + 5 * (k.sizes.sites + k.sizes.buckets)) }
+    ensures learn { (k : Key) (h : Handle) → TakesAtMost _ k (typing h) 1 }
+    ensures sweep { (k : Key) → TakesAtMost _ k (sweeping k) (k.sizes.callers + 1) }
 {}
