@@ -1,4 +1,5 @@
 pub mod Windows
+pub mod Numbering
 pub mod Points
 pub mod HandleSteps
 pub mod Stills

@@ -9,6 +9,7 @@ pub mod Rows
 pub mod Casts
 pub mod Rule
 pub mod Moves
+pub mod RowSteps
 pub mod Facts
 pub mod Evidence
 pub mod Opening

@@ -3,6 +3,7 @@
 //! to all views. Nothing here runs, but for `Sizes::lawful` and what the table knows from the start.
 #![tactic(auto)]
 
+mod begun;
 mod cast_view;
 mod handle_view;
 mod key;
@@ -13,6 +14,7 @@ mod step;
 mod view;
 mod world;
 
+pub use begun::Begun;
 pub use cast_view::{CastEvidence, CastRowWrite, CastView, Probe, Written};
 pub use handle_view::{Binding, HandleView};
 pub use key::Key;
