@@ -18,7 +18,8 @@ use Rattle.vsd_trails.specs.declared.casting.Miss.{Miss}
 use Rattle.vsd_trails.specs.declared.casting.Find.{Find}
 use Rattle.vsd_trails.specs.declared.casting.Find.TheVariants as find
 use Rattle.vsd_trails.specs.Programs.{Program, done, bind, when◌then◌else◌}
-use Rattle.vsd_trails.specs.Words.{unpacked_handle, unpacked_bucket}
+use Rattle.vsd_trails.specs.Words.{unpacked_bucket}
+use Rattle.vsd_rule.specs.RowSteps.{unpacked_handle}
 use Rattle.vsd_trails.specs.RowTrails.{reading}
 use Rattle.vsd_trails.specs.CallTrails.{finding_in, finding, caching_in, caching, Stubbed, stub_hit, stub_miss, patching, stubbing, installing_in, installing, walking_by, walking, resolving_by, answering_by, answering, calling}
 use Rattle.vsd_trails.specs.CastTrails.{region_size, Probed, probe_hit, probe_miss, probing_row, unless_hit, probing, finding_cast, making_odd, publishing, writing, growing, putting_by, putting_cast, asking, typing_target, typing_source, casting_by, casting}

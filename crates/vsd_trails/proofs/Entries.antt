@@ -13,7 +13,8 @@ use Rattle.vsd_trails.specs.CastTrails.{finding_cast, casting}
 use Rattle.vsd_trails.specs.UnloadTrails.{binding, unloading}
 use Rattle.vsd_trails.specs.Operations.{Event, called, cast_to, loaded, unloaded, call_event, cast_event, load_event, unload_event, begun}
 use Rattle.vsd_trails.specs.Laws.{AddsEntry, AddsNothing}
-use Rattle.vsd_trails.proofs.Runs.{maps, makes_only, asks_bind}
+use Rattle.vsd_trails.proofs.Runs.{maps, makes_only}
+use Rattle.vsd_trails.proofs.Asking.{Only, nothing, one, sees, and_then, either}
 use Rattle.vsd_trails.proofs.Logs.{first_asked, adds_entry, passed_over}
 
 -- ---- operations
@@ -72,39 +73,34 @@ module _ (k : Key) where
   abbrev BeginsNothing : Asked → Type 0
   BeginsNothing c = begun k c ≡ None
 
-  adds_none : {A : Type 0} (p : Program A) → AsksOnly BeginsNothing p → AddsNothing A k p
-  adds_none p only f trail answer entries old log runs = passed_over Event k (begun k) trail old entries (makes_only BeginsNothing k f p trail answer only runs) log
+  adds_none : {A : Type 0} (p : Program A) → Only BeginsNothing p → AddsNothing A k p
+  adds_none p asks f trail answer entries old log runs = passed_over Event k (begun k) trail old entries (makes_only BeginsNothing k f p trail answer asks.only runs) log
 
-  pin_only : AsksOnly BeginsNothing (pinning Nothing)
-  unfolding pinning bind
-  pin_only = (refl, λ epoch. (refl, λ word. tt))
+  pin_begins_nothing : Only BeginsNothing (pinning Nothing)
+  unfolding pinning
+  pin_begins_nothing = and_then BeginsNothing (one BeginsNothing refl) (λ epoch. one BeginsNothing refl)
+
+  passing_begins_nothing : (x : RetiredRow) (n caller : ℕ) → Only BeginsNothing (passing x n caller)
+  unfolding passing
+  passing_begins_nothing x zero caller = and_then BeginsNothing (one BeginsNothing refl) (λ u. nothing BeginsNothing)
+  passing_begins_nothing x (suc n) caller = and_then BeginsNothing (one BeginsNothing refl) (λ word. either BeginsNothing _ (passing_begins_nothing x n (caller + 1)) (nothing BeginsNothing))
+
+  oldest_begins_nothing : (limbo : List RetiredRow) → Only BeginsNothing (sweeping_oldest k limbo)
+  oldest_begins_nothing [] = nothing BeginsNothing
+  oldest_begins_nothing (x ∷ xs) = passing_begins_nothing x k.sizes.callers 0
+
+  sweeping_begins_nothing : Only BeginsNothing (sweeping k)
+  unfolding sweeping
+  sweeping_begins_nothing = sees BeginsNothing (λ f. oldest_begins_nothing f.limbo)
 
   pub pin_adds_nothing : AddsNothing _ k (pinning Nothing)
-  pin_adds_nothing = adds_none (pinning Nothing) pin_only
+  pin_adds_nothing = adds_none (pinning Nothing) pin_begins_nothing
 
   pub unpin_adds_nothing : AddsNothing _ k unpinning
-  unpin_adds_nothing = adds_none unpinning (refl, λ word. tt)
+  unpin_adds_nothing = adds_none unpinning (one BeginsNothing refl)
 
   pub learn_adds_nothing : (h : Handle) → AddsNothing _ k (typing h)
-  learn_adds_nothing h = adds_none (typing h) (refl, λ word. tt)
-
-  only_when : {A : Type 0} (b : Bool) (p q : Program A) → AsksOnly BeginsNothing p → AsksOnly BeginsNothing q → AsksOnly BeginsNothing (when b then p else q)
-  unfolding when◌then◌else◌
-  only_when true p q first second = first
-  only_when false p q first second = second
-
-  passing_only : (x : RetiredRow) (n caller : ℕ) → AsksOnly BeginsNothing (passing x n caller)
-  unfolding passing bind
-  passing_only x zero caller = (refl, λ word. tt)
-  passing_only x (suc n) caller = (refl, λ word. only_when _ (passing x n (caller + 1)) _ (passing_only x n (caller + 1)) tt)
-
-  oldest_only : (limbo : List RetiredRow) → AsksOnly BeginsNothing (sweeping_oldest k limbo)
-  oldest_only [] = tt
-  oldest_only (x ∷ xs) = passing_only x k.sizes.callers 0
-
-  sweeping_only : AsksOnly BeginsNothing (sweeping k)
-  unfolding sweeping
-  sweeping_only = λ f. oldest_only f.limbo
+  learn_adds_nothing h = adds_none (typing h) (one BeginsNothing refl)
 
   pub sweep_adds_nothing : AddsNothing _ k (sweeping k)
-  sweep_adds_nothing = adds_none (sweeping k) sweeping_only
+  sweep_adds_nothing = adds_none (sweeping k) sweeping_begins_nothing

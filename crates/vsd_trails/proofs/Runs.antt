@@ -63,12 +63,6 @@ makes_only P k f (look p) xs a only r = makes_only P k f (p f) xs a (only f) r
 makes_only P k f (ask c p) [] a only r = absurd r
 makes_only P k f (ask c p) (x ∷ xs) a only r = (subst P (sym r.0) only.0, makes_only P k (after_step k f x) (p x.step.found) xs a (only.1 x.step.found) r.2)
 
-pub asks_bind : {A B : Type 0} (P : Asked → Type 0) (p : Program A) (g : A → Program B) → AsksOnly P p → ((a : A) → AsksOnly P (g a)) → AsksOnly P (bind p g)
-unfolding bind
-asks_bind P (done a) g only then = then a
-asks_bind P (look p) g only then = λ f. asks_bind P (p f) g (only f) then
-asks_bind P (ask c p) g only then = (only.0, λ word. asks_bind P (p word) g (only.1 word) then)
-
 -- ---- lists as views have them
 
 pub onto_after : (xs ys old : List TrailStep) → onto (xs ++ ys) old ≡ onto ys (onto xs old)

@@ -9,6 +9,7 @@ use Rattle.vsd_rule.specs.declared.key.Key.{Key}
 use Rattle.vsd_rule.specs.declared.step.Act.TheVariants.{LoadVersion, LoadSource, LoadCast, LoadVersionAgain, ClaimCast, SetSource, SetCast, Publish, LoadRegion, ReclaimCast, Grow}
 use Rattle.vsd_rule.specs.declared.step.Begins.TheVariants.{Cast}
 use Rattle.vsd_rule.specs.Lists.{compatible}
+use Rattle.vsd_rule.specs.RowSteps.{unpacked_handle}
 use Rattle.vsd_trails.specs.declared.answers.CastAnswer.{CastAnswer}
 use Rattle.vsd_trails.specs.declared.answers.Unloaded.{Unloaded}
 use Rattle.vsd_trails.specs.declared.casting.Miss.{Miss}
@@ -18,7 +19,7 @@ use Rattle.vsd_trails.specs.declared.casting.Put.{Put}
 use Rattle.vsd_trails.specs.declared.casting.Put.TheVariants.{Written, Grew, Nothing}
 use Rattle.vsd_trails.specs.declared.casting.Lost.TheVariants as lost
 use Rattle.vsd_trails.specs.Programs.{Program, done, ask, ◌>>=◌, ◌>>◌, when◌then◌else◌}
-use Rattle.vsd_trails.specs.Words.{unpacked_handle, unpacked_cast, same_handle}
+use Rattle.vsd_trails.specs.Words.{unpacked_cast, same_handle}
 use Rattle.vsd_trails.specs.RowTrails.{reading, loading, making, typing}
 
 abbrev pub region_size : ℕ → ℕ

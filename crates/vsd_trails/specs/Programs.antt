@@ -7,6 +7,7 @@ use Rattle.vsd_rule.specs.declared.step.Act.TheVariants.{LoadRow, Unbind, EpochT
 use Rattle.vsd_rule.specs.declared.step.RowWord.TheVariants.{Claim}
 use Rattle.vsd_rule.specs.declared.step.Begins.{Begins}
 use Rattle.vsd_rule.specs.declared.step.Step.{Step}
+use Rattle.vsd_rule.specs.RowSteps.{next_row, without_oldest}
 
 -- what a view has that decides which step comes next
 pub record Fields : Type 0 where
@@ -67,15 +68,11 @@ asked_of x = record { act = asked_act x.step.act; begins = x.begins }
 abbrev pub fields_at : TrailStep → Fields
 fields_at x = record { cursor = x.step.cursor; limbo = x.step.limbo }
 
--- the row after a row, round the end
-abbrev pub next_row : Key → ℕ → ℕ
-next_row k row = cond (nat_lt (row + 1) k.sizes.rows) (row + 1) 0
-
 -- The cursor moves past each row whose claim word is loaded. A row enters limbo at the end, and leaves it at the front.
 abbrev pub after_act : Key → Fields → Act → ℕ → Fields
 after_act k f (LoadRow row Claim) found = record f { cursor = next_row k row }
 after_act k f (EpochToRetire row) found = record f { limbo = f.limbo ++ record { row = row; epoch = found } ∷ [] }
-after_act k f (FreeSwept row) found = record f { limbo = drop 1 f.limbo }
+after_act k f (FreeSwept row) found = record f { limbo = without_oldest f.limbo }
 after_act k f act found = f
 
 abbrev pub after_step : Key → Fields → TrailStep → Fields

@@ -11,11 +11,12 @@ use Rattle.vsd_rule.specs.declared.step.RowWord.TheVariants as row_word
 use Rattle.vsd_rule.specs.declared.step.Begins.{Begins}
 use Rattle.vsd_rule.specs.declared.step.Begins.TheVariants.{Operation}
 use Rattle.vsd_rule.specs.declared.step.Doing.{Doing}
+use Rattle.vsd_rule.specs.RowSteps.{next_row, unpacked_handle, is_clear}
 use Rattle.vsd_trails.specs.declared.answers.Unloaded.{Unloaded}
 use Rattle.vsd_trails.specs.declared.answers.Swept.{Swept}
 use Rattle.vsd_trails.specs.declared.answers.Swept.TheVariants.{Empty, Blocked, Freed}
-use Rattle.vsd_trails.specs.Programs.{Program, done, look, ask, ◌>>=◌, ◌>>◌, when◌then◌else◌, next_row}
-use Rattle.vsd_trails.specs.Words.{unpacked_handle, unpacked_cell, unpacked_handle_word, unpacked_bucket, is_clear, type_by}
+use Rattle.vsd_trails.specs.Programs.{Program, done, look, ask, ◌>>=◌, ◌>>◌, when◌then◌else◌}
+use Rattle.vsd_trails.specs.Words.{unpacked_cell, unpacked_handle_word, unpacked_bucket, type_by}
 
 -- ---- one step
 

@@ -5,10 +5,8 @@ use Rattle.vsd_words.specs.declared.cell_word.CellWord.{CellWord}
 use Rattle.vsd_words.specs.declared.cell_word.CellWord.TheVariants.{Lookup, Resolve, Dispatch}
 use Rattle.vsd_words.specs.declared.handle_word.HandleWord.{HandleWord}
 use Rattle.vsd_words.specs.declared.cast_word.CastWord.{CastWord}
+use Rattle.vsd_rule.specs.RowSteps.{unpacked_handle}
 use Rattle.vsd_trails.specs.declared.answers.Unloaded.{Unloaded}
-
-abbrev pub unpacked_handle : ℕ → Handle
-unpacked_handle word = record { row = word % 32768; generation = word / 32768 }
 
 abbrev pub unpacked_cell : ℕ → CellWord
 unpacked_cell zero = Lookup
@@ -29,10 +27,6 @@ unpacked_bucket (suc row) = Some row
 -- the new count where the counter was this; it stands still at its end
 abbrev pub counted : ℕ → ℕ
 counted word = cond (nat_eq word (2 ^ 64 - 1)) word (word + 1)
-
--- the caller whose epoch word is this protects no row that entered limbo at the epoch
-abbrev pub is_clear : ℕ → ℕ → Bool
-is_clear epoch word = nat_eq word 0 || nat_le (epoch + 2) word
 
 abbrev pub same_handle : Handle → Handle → Bool
 same_handle g h = nat_eq g.row h.row && nat_eq g.generation h.generation

@@ -1,6 +1,15 @@
 // What holds of every program. Each law is a function that does nothing and ensures it.
-ghost use Rattle.std.specs.Prelude.{ℕ, ◌+◌, ◌*◌};
+ghost use Rattle.std.specs.Prelude.{◌≡◌, ℕ, ◌+◌, ◌*◌, Option};
 ghost use Rattle.vsd_words.specs.declared.handle.Handle.{Handle};
+ghost use Rattle.vsd_words.specs.declared.cell_word.CellWord.{CellWord};
+ghost use Rattle.vsd_words.specs.declared.handle_word.HandleWord.{HandleWord};
+ghost use Rattle.vsd_words.specs.declared.cast_word.CastWord.{CastWord};
+ghost use Rattle.vsd_words.specs.Handle.{IsHandlePacking};
+ghost use Rattle.vsd_words.specs.CellWord.{packed_cell};
+ghost use Rattle.vsd_words.specs.HandleWord.{IsHandleWordPacking};
+ghost use Rattle.vsd_words.specs.CastWord.{IsCastPacking};
+ghost use Rattle.vsd_rule.specs.RowSteps.{unpacked_handle, packed_bucket};
+ghost use Rattle.vsd_trails.specs.Words.{unpacked_cell, unpacked_handle_word, unpacked_cast, unpacked_bucket};
 ghost use Rattle.vsd_rule.specs.declared.key.Key.{Key};
 ghost use Rattle.vsd_rule.specs.declared.step.Doing.TheVariants.{Nothing};
 ghost use Rattle.vsd_trails.specs.Programs.{Program, Asked};
@@ -80,4 +89,13 @@ pub fn takes_few_steps()
     ensures unload { (k : Key) (h : Handle) → TakesAtMost _ k (unloading k h) (5 + k.sizes.callers + 5 * (k.sizes.sites + k.sizes.buckets)) }
     ensures learn { (k : Key) (h : Handle) → TakesAtMost _ k (typing h) 1 }
     ensures sweep { (k : Key) → TakesAtMost _ k (sweeping k) (k.sizes.callers + 1) }
+{}
+
+/// What is packed into a word is what is read from it.
+pub fn reads_back()
+    ensures handle { (word : ℕ) (h : Handle) → IsHandlePacking h word → unpacked_handle word ≡ h }
+    ensures cell { (cell : CellWord) → unpacked_cell (packed_cell cell) ≡ cell }
+    ensures handle_word { (word : ℕ) (w : HandleWord) → IsHandleWordPacking w word → unpacked_handle_word word ≡ w }
+    ensures cast { (word : ℕ) (w : CastWord) → IsCastPacking w word → unpacked_cast word ≡ w }
+    ensures bucket { (named : Option ℕ) → unpacked_bucket (packed_bucket named) ≡ named }
 {}
