@@ -7,4 +7,4 @@ pub mod CastTrails
 pub mod UnloadTrails
 pub mod Operations
 pub mod Logs
-pub mod HeldPairs
+pub mod CallPaths

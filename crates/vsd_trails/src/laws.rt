@@ -99,3 +99,8 @@ pub fn reads_back()
     ensures cast { (word : ℕ) (w : CastWord) → IsCastPacking w word → unpacked_cast word ≡ w }
     ensures bucket { (named : Option ℕ) → unpacked_bucket (packed_bucket named) ≡ named }
 {}
+
+/// x
+pub fn temporary()
+    ensures { (g h : Handle) → g ≡ h → g ≡ h }
+{}
