@@ -1,5 +1,5 @@
 // What holds of every program. Each law is a function that does nothing and ensures it.
-ghost use Rattle.std.specs.Prelude.{◌≡◌, ℕ, ◌+◌, ◌*◌, Option};
+ghost use Rattle.std.specs.Prelude.{◌≡◌, ℕ, ◌+◌, ◌*◌, List, Option, Ok, Err};
 ghost use Rattle.vsd_words.specs.declared.handle.Handle.{Handle};
 ghost use Rattle.vsd_words.specs.declared.cell_word.CellWord.{CellWord};
 ghost use Rattle.vsd_words.specs.declared.handle_word.HandleWord.{HandleWord};
@@ -12,7 +12,10 @@ ghost use Rattle.vsd_rule.specs.RowSteps.{unpacked_handle, packed_bucket};
 ghost use Rattle.vsd_trails.specs.Words.{unpacked_cell, unpacked_handle_word, unpacked_cast, unpacked_bucket};
 ghost use Rattle.vsd_rule.specs.declared.key.Key.{Key};
 ghost use Rattle.vsd_rule.specs.declared.step.Doing.TheVariants.{Nothing};
-ghost use Rattle.vsd_trails.specs.Programs.{Program, Asked};
+ghost use Rattle.vsd_trails.specs.declared.answers.Answer.{Answer};
+ghost use Rattle.vsd_trails.specs.declared.answers.Unloaded.{Unloaded};
+ghost use Rattle.vsd_trails.specs.Programs.{Program, Asked, Fields, TrailStep, Runs};
+ghost use Rattle.vsd_trails.specs.CallPaths.{PathTells, ShowsUnloaded, HoldsPair};
 ghost use Rattle.vsd_trails.specs.RowTrails.{pinning, unpinning, typing, sweeping};
 ghost use Rattle.vsd_trails.specs.CallTrails.{calling};
 ghost use Rattle.vsd_trails.specs.CastTrails.{casting};
@@ -100,7 +103,12 @@ pub fn reads_back()
     ensures bucket { (named : Option ℕ) → unpacked_bucket (packed_bucket named) ≡ named }
 {}
 
-/// x
-pub fn temporary()
-    ensures { (g h : Handle) → g ≡ h → g ≡ h }
+/// What the answer of a call tells of its trail. By a stub: the cell's row has the handle, and the target is its. By a
+/// bucket: the cell's row has not, the bucket's row has the handle and the token, and the target is its. By a walk, and
+/// where the handle is unloaded: neither row holds the pair. A handle word is loaded by those two alone.
+pub fn answer_tells()
+    ensures path { (k : Key) (site : ℕ) (h : Handle) (f : Fields) (trail : List TrailStep) (a : Answer) →
+        Runs k f (calling k site h) trail (Ok a) → PathTells k site h trail a.target a.path }
+    ensures unloaded { (k : Key) (site : ℕ) (h : Handle) (f : Fields) (trail : List TrailStep) (u : Unloaded) →
+        Runs k f (calling k site h) trail (Err u) → ShowsUnloaded h trail u × (HoldsPair k site h trail → ⊥) }
 {}
