@@ -13,3 +13,5 @@ pub mod RowMoves
 pub mod RowPins
 pub mod RowClaims
 pub mod RowCells
+pub mod RowLooks
+pub mod RowLimbo

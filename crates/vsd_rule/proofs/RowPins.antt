@@ -17,28 +17,33 @@ use Rattle.vsd_rule.proofs.RowFrames.{SeesRow, Sweeps, cells_of, buckets_of, lim
 
 module _ (k : Key) {gen : ℕ → ℕ} {name : ℕ → ℕ → ℕ} {epoch : ℕ} {pins cells words buckets : List ℕ} {seats : List RowSeat} (r : Rows k gen name epoch pins cells words buckets seats)
     (id : ℕ) (d : RowSeat) (at : get_elem? seats id ≡ some d) where
-  -- a seat whose queue of limbo and whose sweep stay as they are
+  -- a seat whose sweep has come no further, of the same row
+  pub sweeps_by : (d' : RowSeat) → d'.who ≡ d.who
+      → ((number : ℕ) (x : RetiredRow) → number < d'.rows.passed → get_elem? d'.rows.limbo 0 ≡ some x → (number < d.rows.passed) × (get_elem? d.rows.limbo 0 ≡ some x))
+      → ((i : ℕ) (y : ProtectedRow) → 0 < d'.rows.pinned → get_elem? d'.rows.protected i ≡ some y
+      → ((0 < d.rows.pinned) × SeesRow d.rows.protected y.row) ⊎ ((seat since : ℕ) → r.state y.row ≢ kept seat (Retired since)))
+      → Sweeps k r id d d'
+  sweeps_by d' who before protected = record {
+    who = who;
+    protected = protected;
+    mine = λ other number i e x y over is_who below oldest is pinned. let b = before number x below oldest in ⊎_elim
+        (λ (t : (other ≡ id) × (d' ≡ e)). let back = sym t.1 in ⊎_elim
+        (λ (u : (0 < d.rows.pinned) × SeesRow d.rows.protected y.row). let z = u.1 in λ same.
+        r.swept id id number z.index d d x z.sight at at (sym who ∙ subst (λ (q : RowSeat). q.who ≡ Caller number) back is_who) b.0 b.1 z.there u.0 (z.same ∙ same))
+        (λ (none : (seat since : ℕ) → r.state y.row ≢ kept seat (Retired since)). λ same. none id x.epoch (ap r.state same ∙ limbo_state k r id 0 d x at b.1))
+        (protected i y (subst (λ (q : RowSeat). 0 < q.rows.pinned) back pinned) (subst (λ (q : RowSeat). get_elem? q.rows.protected i ≡ some y) back is)))
+        (λ (t : (other ≢ id) × (get_elem? seats other ≡ some e)). r.swept id other number i d e x y at t.1 is_who b.0 b.1 is pinned)
+        (at_set seats id other d' e over);
+  }
+
   pub sweeps_still : (d' : RowSeat) → d'.who ≡ d.who → d'.rows.limbo ≡ d.rows.limbo → d'.rows.passed ≡ d.rows.passed
       → ((i : ℕ) (y : ProtectedRow) → 0 < d'.rows.pinned → get_elem? d'.rows.protected i ≡ some y
       → ((0 < d.rows.pinned) × SeesRow d.rows.protected y.row) ⊎ ((seat since : ℕ) → r.state y.row ≢ kept seat (Retired since)))
       → Sweeps k r id d d'
-  sweeps_still d' who limbo passed protected = record {
-    who = who;
-    protected = protected;
-    mine = λ other number i e x y over is_who below oldest is pinned.
-        let first : get_elem? d.rows.limbo 0 ≡ some x = subst (λ (xs : List RetiredRow). get_elem? xs 0 ≡ some x) limbo oldest in
-        let less : number < d.rows.passed = subst (λ (n : ℕ). number < n) passed below in
-        ⊎_elim
-        (λ (t : (other ≡ id) × (d' ≡ e)). let back = sym t.1 in ⊎_elim
-        (λ (u : (0 < d.rows.pinned) × SeesRow d.rows.protected y.row). let z = u.1 in λ same.
-        r.swept id id number z.index d d x z.sight at at (sym who ∙ subst (λ (q : RowSeat). q.who ≡ Caller number) back is_who) less first z.there u.0 (z.same ∙ same))
-        (λ (none : (seat since : ℕ) → r.state y.row ≢ kept seat (Retired since)). λ same. none id x.epoch (ap r.state same ∙ limbo_state k r id 0 d x at first))
-        (protected i y (subst (λ (q : RowSeat). 0 < q.rows.pinned) back pinned) (subst (λ (q : RowSeat). get_elem? q.rows.protected i ≡ some y) back is)))
-        (λ (t : (other ≢ id) × (get_elem? seats other ≡ some e)). r.swept id other number i d e x y at t.1 is_who less first is pinned)
-        (at_set seats id other d' e over);
-  }
+  sweeps_still d' who limbo passed = sweeps_by d' who
+      (λ number x below oldest. (subst (λ (n : ℕ). number < n) passed below, subst (λ (xs : List RetiredRow). get_elem? xs 0 ≡ some x) limbo oldest))
 
-  -- protected that were there are protected as before
+  -- rows that were protected are protected as before
   pub seen_before : (i : ℕ) (y : ProtectedRow) → 0 < d.rows.pinned → get_elem? d.rows.protected i ≡ some y
       → ((0 < d.rows.pinned) × SeesRow d.rows.protected y.row) ⊎ ((seat since : ℕ) → r.state y.row ≢ kept seat (Retired since))
   seen_before i y pinned is = inl (pinned, record { index = i; sight = y; there = is; same = refl })
