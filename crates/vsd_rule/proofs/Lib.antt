@@ -15,3 +15,5 @@ pub mod RowClaims
 pub mod RowCells
 pub mod RowLooks
 pub mod RowLimbo
+pub mod CastLooks
+pub mod CastWrites
