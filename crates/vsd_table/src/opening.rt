@@ -5,19 +5,27 @@ ghost use lib.ListN.{get_elem?};
 ghost use Rattle.vsd_rule.specs.declared.view.Who.TheVariants.{Root};
 ghost use Rattle.vsd_rule.specs.Sizes.{LawfulSizes};
 ghost use Rattle.vsd_rule.specs.Lists.{LawfulKey, key_with};
-ghost use Rattle.vsd_rule.specs.Moves.{root_view, caller_view};
+ghost use Rattle.vsd_rule.specs.Moves.{root_view, caller_view, after_split, split_off};
 ghost use Rattle.vsd_rule.specs.Opening.{host_packing};
 ghost use Rattle.vsd_table.specs.Seating.{key_of, view_of, Belongs, AreSeatsOf};
 ghost use Rattle.vsd_table.specs.declared.seated.Seated.{Seated};
 
 use crate::offsets::Offsets;
-use crate::plays::NextCaller;
 use crate::seated::Seated;
 use crate::shared::{Shared, SharedRule};
-use atomic_table::{Seat, Table};
+use atomic_table::{Seat, Split, Table};
 use std::alloc::{AllocError, Global};
-use vsd_rule::{Key, Resolver, Sizes, View, World};
+use vsd_rule::{Begun, Key, Resolver, Sizes, View, World};
 use vsd_words::HandleWord;
+
+/// The root gives out the next caller's seat.
+pub(crate) struct NextCaller;
+
+impl Split<View> for NextCaller {
+    ghost left = { after_split };
+
+    ghost right = { split_off };
+}
 
 /// What a table is laid out from.
 #[derive(Drop)]
@@ -135,6 +143,7 @@ impl Shared {
         let seat = self.table.shared.split_seat::<NextCaller>(root);
         Seated {
             seat,
+            begun: Begun::new(),
             caller,
             first: self.sizes.hosts + 64 * caller,
         }
