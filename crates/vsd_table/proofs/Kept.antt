@@ -8,17 +8,18 @@ use lib.ListN.{get_elem?}
 use Rattle.atomic_table.specs.Table.{State, Me, step, keeps}
 use Rattle.atomic_table.proofs.Lists.{exchanged}
 use Rattle.vsd_rule.specs.declared.key.Key.{Key}
+use Rattle.vsd_rule.specs.declared.sizes.Sizes.{Sizes}
 use Rattle.vsd_rule.specs.declared.view.View.{View}
 use Rattle.vsd_rule.specs.Rule.{Rule}
 use Rattle.vsd_table.specs.StepKind.{Kind, SameSeat, Learns}
-use Rattle.vsd_table.specs.Seating.{key_of, view_of}
+use Rattle.vsd_table.specs.Seating.{key_of, view_of, Belongs}
 use Rattle.vsd_table.specs.Stepping.{May, MayLoad, MayStore, MaySwap, MayExchange, MayAdd}
 use Rattle.vsd_table.specs.declared.shared.Shared.{Shared}
 use Rattle.vsd_table.specs.declared.seated.Seated.{Seated}
 
 -- a step's word and operands say what it was given
 abbrev pub Unique : Kind → Type 0
-Unique kind = (v : View) (x y : kind.Given) → kind.word v x ≡ kind.word v y → kind.first x ≡ kind.first y → kind.second x ≡ kind.second y → kind.Fits v x → kind.Fits v y → x ≡ y
+Unique kind = (s : Sizes) (v : View) (x y : kind.Given) → kind.word s x ≡ kind.word s y → kind.first x ≡ kind.first y → kind.second x ≡ kind.second y → kind.Fits v x → kind.Fits v y → x ≡ y
 
 -- what a step makes of its seat's view, where the words become these
 pub record Keeps (kind : Kind) (k : Key) (words : List ℕ) (views : List View) (id : ℕ) (v : View) (x : kind.Given) (found : ℕ) : Type 0 where
@@ -27,7 +28,7 @@ pub record Keeps (kind : Kind) (k : Key) (words : List ℕ) (views : List View) 
   pub rule : Rule k words (set views id after)
   pub tells : kind.Tells v x found after
 
-module _ (kind : Kind) (unique : Unique kind) (table : Shared) (seated : Seated) (index : ℕ) (x : kind.Given) (there : index ≡ kind.word (view_of seated) x) (fits : kind.Fits (view_of seated) x) where
+module _ (kind : Kind) (unique : Unique kind) (table : Shared) (seated : Seated) (index : ℕ) (x : kind.Given) (belongs : Belongs table seated) (there : index ≡ kind.word (key_of table).sizes x) (fits : kind.Fits (view_of seated) x) where
   abbrev k : Key
   k = key_of table
 
@@ -42,20 +43,23 @@ module _ (kind : Kind) (unique : Unique kind) (table : Shared) (seated : Seated)
   KeepsBy becomes = (words : List ℕ) (views : List View) → Rule k words views → get_elem? views id ≡ some v → Keeps kind k (set words index (becomes (get_or words index 0))) views id v x (get_or words index 0)
 
   module _ (becomes : ℕ → ℕ) (first second : ℕ) (of_first : kind.first x ≡ first) (of_second : kind.second x ≡ second) where
-    learns : (found : ℕ) (after : View) → kind.Tells v x found after → Learns kind index first second v found after
-    learns found after tells y word a b fits_y = subst (λ (z : kind.Given). kind.Tells v z found after) (unique v x y (sym there ∙ word) (of_first ∙ a) (of_second ∙ b) fits fits_y) tells
+    learns : (found : ℕ) (after : View) → kind.Tells v x found after → Learns kind k.sizes index first second v found after
+    learns found after tells y word a b fits_y = subst (λ (z : kind.Given). kind.Tells v z found after) (unique k.sizes v x y (sym there ∙ word) (of_first ∙ a) (of_second ∙ b) fits fits_y) tells
 
-    may : KeepsBy becomes → May kind table seated index becomes (λ found after. SameSeat v after.0 × Learns kind index first second v found after.0)
+    by_view : (found : ℕ) (after : View) → Learns kind k.sizes index first second v found after → Learns kind v.key.sizes index first second v found after
+    by_view found after = subst (λ (key : Key). Learns kind key.sizes index first second v found after) (sym belongs.key)
+
+    may : KeepsBy becomes → May kind table seated index becomes (λ found after. SameSeat v after.0 × Learns kind v.key.sizes index first second v found after.0)
     may kept s rule homes at small =
         let n : ℕ = get_or s.words index 0 in
         let here = kept s.words s.views rule at in
-        (here.after, keeps, tt, here.rule, (here.same, learns n here.after here.tells))
+        (here.after, keeps, tt, here.rule, (here.same, by_view n here.after (learns n here.after here.tells)))
 
     may_with : (found : ℕ) → ((words : List ℕ) (views : List View) → Rule k words views → get_elem? views id ≡ some v → Keeps kind k (set words index (becomes (get_or words index 0))) views id v x found)
-        → May kind table seated index becomes (λ _ after. SameSeat v after.0 × Learns kind index first second v found after.0)
+        → May kind table seated index becomes (λ _ after. SameSeat v after.0 × Learns kind v.key.sizes index first second v found after.0)
     may_with found kept s rule homes at small =
         let here = kept s.words s.views rule at in
-        (here.after, keeps, tt, here.rule, (here.same, learns found here.after here.tells))
+        (here.after, keeps, tt, here.rule, (here.same, by_view found here.after (learns found here.after here.tells)))
 
   pub may_load : kind.first x ≡ 0 → kind.second x ≡ 0
       → ((words : List ℕ) (views : List View) → Rule k words views → get_elem? views id ≡ some v → Keeps kind k words views id v x (get_or words index 0)) → MayLoad kind table seated index

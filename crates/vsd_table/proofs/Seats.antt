@@ -25,10 +25,6 @@ own_within k v row caller key is small own =
     let there : row < handle_rows v.key.sizes = omega arith in
     subst (λ (q : Key). row < handle_rows q.sizes) key there
 
--- where a word lies, by what the seat knows of the table
-pub index_known : (table : Shared) (seated : Seated) → Belongs table seated → (lies : Sizes → ℕ) (i : ℕ) → i ≡ lies (key_of table).sizes → i ≡ lies (view_of seated).key.sizes
-index_known table seated belongs lies i is = is ∙ ap (λ (k : Key). lies k.sizes) (sym belongs.key)
-
 -- what a step makes of its seat
 pub becomes : {old new : Seated} {after : View} → StaysSeat old new → view_of new ≡ after → Becomes old new after
 becomes stays view = record { table_id = stays.table_id; seat = stays.seat; view = view; begins = ap (λ (b : Begun). b.items) stays.begun }

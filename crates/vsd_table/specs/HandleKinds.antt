@@ -11,21 +11,20 @@ use Rattle.vsd_table.specs.StepKind.{Kind}
 
 -- ---- a load
 
--- the word found packs this one
-pub record LoadedHandle (before : View) (row found : ℕ) (after : View) (w : HandleWord) : Type 0 where
-  pub packing : IsHandleWordPacking w found
-  pub view : after ≡ after_load_handle before row w
-  pub finds : FindsHandle before row w
+pub record LoadedHandle (before : View) (row found : ℕ) (after : View) : Type 0 where
+  pub packs : (w : HandleWord) × IsHandleWordPacking w found
+  pub view : (w : HandleWord) → IsHandleWordPacking w found → after ≡ after_load_handle before row w
+  pub finds : (w : HandleWord) → IsHandleWordPacking w found → FindsHandle before row w
   pub one_binding : KnowsOneBinding after.handles
 
 abbrev pub load_handle : Kind
 load_handle = record {
   Given = ℕ;
-  word = λ v row. handles_from v.key.sizes + row;
+  word = λ s row. handles_from s + row;
   first = λ row. 0;
   second = λ row. 0;
   Fits = λ v row. Unit {0};
-  Tells = λ before row found after. (w : HandleWord) × LoadedHandle before row found after w;
+  Tells = LoadedHandle;
 }
 
 -- ---- stores of one of the caller's own
@@ -43,7 +42,7 @@ pub record Bound (before : View) (x : OwnWord) (after : View) : Type 0 where
 abbrev pub bind : Kind
 bind = record {
   Given = OwnWord;
-  word = λ v x. handles_from v.key.sizes + x.row;
+  word = λ s x. handles_from s + x.row;
   first = λ x. packed_handle_word (own_word x.generation x.number true);
   second = λ x. 0;
   Fits = λ v x. HandleWordInRange (own_word x.generation x.number true);
@@ -57,7 +56,7 @@ pub record Unbound (before : View) (x : OwnWord) (after : View) : Type 0 where
 abbrev pub unbind : Kind
 unbind = record {
   Given = OwnWord;
-  word = λ v x. handles_from v.key.sizes + x.row;
+  word = λ s x. handles_from s + x.row;
   first = λ x. packed_handle_word (own_word x.generation x.number false);
   second = λ x. 0;
   Fits = λ v x. HandleWordInRange (own_word x.generation x.number false);

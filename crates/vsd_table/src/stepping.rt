@@ -1,6 +1,6 @@
 //! Steps of any kind on a word, over which the seat stays the same caller's.
 ghost use Rattle.std.specs.Prelude.{◌<◌};
-ghost use Rattle.vsd_table.specs.Seating.{view_of, Belongs};
+ghost use Rattle.vsd_table.specs.Seating.{key_of, view_of, Belongs};
 ghost use Rattle.vsd_table.specs.StepKind.{Learns};
 ghost use Rattle.vsd_table.specs.Stepping.{words_of, StaysSeat, MayLoad, MayStore, MaySwap, MayExchange, MayAdd};
 
@@ -16,7 +16,7 @@ impl Seated {
         requires may { MayLoad K.kind table.now self.old index }
         ensures stays { StaysSeat self.old self.new }
         ensures seat { Belongs table.now self.new }
-        ensures learns { Learns K.kind index 0 0 (view_of self.old) result (view_of self.new) }
+        ensures learns { Learns K.kind (key_of table.now).sizes index 0 0 (view_of self.old) result (view_of self.new) }
     {
         table.table.shared.load::<Made<K>>(&mut self.seat, index)
     }
@@ -28,7 +28,7 @@ impl Seated {
         requires may { MayStore K.kind table.now self.old index word }
         ensures stays { StaysSeat self.old self.new }
         ensures seat { Belongs table.now self.new }
-        ensures learns { Learns K.kind index word 0 (view_of self.old) word (view_of self.new) }
+        ensures learns { Learns K.kind (key_of table.now).sizes index word 0 (view_of self.old) word (view_of self.new) }
     {
         table
             .table
@@ -43,7 +43,7 @@ impl Seated {
         requires may { MaySwap K.kind table.now self.old index word }
         ensures stays { StaysSeat self.old self.new }
         ensures seat { Belongs table.now self.new }
-        ensures learns { Learns K.kind index word 0 (view_of self.old) result (view_of self.new) }
+        ensures learns { Learns K.kind (key_of table.now).sizes index word 0 (view_of self.old) result (view_of self.new) }
     {
         table
             .table
@@ -65,7 +65,7 @@ impl Seated {
         requires may { MayExchange K.kind table.now self.old index old new }
         ensures stays { StaysSeat self.old self.new }
         ensures seat { Belongs table.now self.new }
-        ensures learns { Learns K.kind index old new (view_of self.old) result (view_of self.new) }
+        ensures learns { Learns K.kind (key_of table.now).sizes index old new (view_of self.old) result (view_of self.new) }
     {
         table
             .table
@@ -81,7 +81,7 @@ impl Seated {
         requires may { MayAdd K.kind table.now self.old index more }
         ensures stays { StaysSeat self.old self.new }
         ensures seat { Belongs table.now self.new }
-        ensures learns { Learns K.kind index more 0 (view_of self.old) result (view_of self.new) }
+        ensures learns { Learns K.kind (key_of table.now).sizes index more 0 (view_of self.old) result (view_of self.new) }
     {
         table
             .table
