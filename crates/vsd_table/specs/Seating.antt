@@ -1,5 +1,5 @@
 -- What a clause reads of the table and of a seat.
-use Rattle.std.specs.Prelude.{◌≡◌, ℕ, List, ◌∷◌}
+use Rattle.std.specs.Prelude.{◌≡◌, ℕ, List, [], ◌∷◌}
 use mathlib.Core.Option.{some}
 use lib.ListN.{get_elem?}
 use Rattle.vsd_rule.specs.declared.key.Key.{Key}
@@ -7,6 +7,7 @@ use Rattle.vsd_rule.specs.declared.step.Begins.{Begins}
 use Rattle.vsd_rule.specs.declared.step.Begins.TheVariants.{Operation}
 use Rattle.vsd_rule.specs.declared.step.Doing.{Doing}
 use Rattle.vsd_rule.specs.declared.view.View.{View}
+use Rattle.vsd_rule.specs.Seats.{caller_of}
 use Rattle.vsd_rule.specs.Moves.{caller_view}
 use Rattle.vsd_table.specs.declared.shared.Shared.{Shared}
 use Rattle.vsd_table.specs.declared.seated.Seated.{Seated}
@@ -42,6 +43,12 @@ Becomes old new after = BecomesWith old new after (begun_of old)
 abbrev pub BecomesDoing : Seated → Seated → View → Doing → Type 0
 BecomesDoing old new after doing = BecomesWith old new after (Operation doing ∷ begun_of old)
 
--- The seats are those of the callers of this table, in order of their numbers, and none has made a step
-abbrev pub AreSeatsOf : Shared → List Seated → Type 0
-AreSeatsOf table seats = (caller : ℕ) (s : Seated) → get_elem? seats caller ≡ some s → Belongs table s × (view_of s ≡ caller_view (key_of table) caller)
+-- a caller's seat of this table that has made no step
+pub record IsNew (table : Shared) (seated : Seated) : Type 0 where
+  pub belongs : Belongs table seated
+  pub view : view_of seated ≡ caller_view (key_of table) (caller_of (view_of seated).who)
+  pub begun : begun_of seated ≡ []
+
+-- the seats are in order of their callers' numbers
+abbrev pub AreNumbered : List Seated → Type 0
+AreNumbered seats = (caller : ℕ) (s : Seated) → get_elem? seats caller ≡ some s → caller_of (view_of s).who ≡ caller
