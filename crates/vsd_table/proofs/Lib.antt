@@ -1,4 +1,5 @@
+pub mod Kept
 pub mod Powers
-pub mod Allowed
+pub mod HandleWords
 pub mod Seats
 pub mod Laid

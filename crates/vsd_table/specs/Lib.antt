@@ -1,3 +1,5 @@
 pub mod Offsets
-pub mod Plays
+pub mod StepKind
+pub mod HandleKinds
 pub mod Seating
+pub mod Stepping
