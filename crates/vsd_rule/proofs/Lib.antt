@@ -15,3 +15,4 @@ pub mod RowClaims
 pub mod RowCells
 pub mod RowLooks
 pub mod RowLimbo
+pub mod RuleByRows
