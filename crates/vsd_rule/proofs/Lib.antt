@@ -17,3 +17,4 @@ pub mod RowLooks
 pub mod RowLimbo
 pub mod CastLooks
 pub mod CastWrites
+pub mod RuleByRows
