@@ -18,3 +18,4 @@ pub mod RowLimbo
 pub mod CastLooks
 pub mod CastWrites
 pub mod RuleByRows
+pub mod RuleByCasts
