@@ -19,6 +19,7 @@ use Rattle.vsd_rule.specs.Handles.{Handles}
 use Rattle.vsd_rule.specs.Rows.{RowSeat, Rows, TrueRowView}
 use Rattle.vsd_rule.specs.Casts.{Casts}
 use Rattle.vsd_rule.specs.Rule.{Whole, Rule, who_of, handle_seat, row_seat, cast_view}
+use Rattle.vsd_rule.specs.Facts.{SmallEpoch}
 use Rattle.vsd_rule.specs.RowSteps.{after_rows, after_epoch, after_pin, after_unpin, after_raise}
 use Rattle.vsd_rule.proofs.Points.{unseen_set}
 use Rattle.vsd_rule.proofs.Windows.{pins_length, pin_word, pin_written, epoch_written}
@@ -108,6 +109,9 @@ module _ (k : Key) (words : List ℕ) (views : List View) (r : Rule k words view
 
   pub caller_below : (caller : ℕ) → v.who ≡ Caller caller → caller < k.sizes.callers
   caller_below caller who = w.seats.in_range id caller (at_map who_of views id v at ∙ ap some who)
+
+  pub small_epoch : SmallEpoch v
+  small_epoch e loaded = let small : e ≤ z.epoch = subst (λ (o : Option ℕ). IfSome o (λ (x : ℕ). x ≤ z.epoch)) loaded mine.loaded in omega (arith, w.rows.epoch_small)
 
   -- ---- the epoch, pins
 
