@@ -1,5 +1,5 @@
 -- What a step tells of its seat, besides what it makes of the seat's view.
-use Rattle.std.specs.Prelude.{◌≡◌, ℕ, ◌+◌, ◌<◌, ◌≤◌, true, replicate}
+use Rattle.std.specs.Prelude.{◌≡◌, ℕ, ◌+◌, ◌<◌, ◌≤◌, ◌^◌, true, replicate, Some}
 use mathlib.Core.Option.{some}
 use lib.ListN.{get_elem?}
 use Rattle.vsd_words.specs.declared.handle.Handle.{Handle}
@@ -19,6 +19,10 @@ Knows n h number = (i : ℕ) × (get_elem? n.bindings i ≡ some (binding_for h 
 -- all bindings of one handle that the seat knows are one
 abbrev pub KnowsOneBinding : HandleView → Type 0
 KnowsOneBinding n = (h : Handle) (number other : ℕ) → Knows n h number → Knows n h other → number ≡ other
+
+-- what a seat has loaded of the epoch can be raised by one
+abbrev pub SmallEpoch : View → Type 0
+SmallEpoch v = (epoch : ℕ) → v.rows.epoch ≡ Some epoch → epoch ≤ 2 ^ 62
 
 -- none of the seat's own 64 rows was ever bound
 abbrev pub HasBoundNone : View → Type 0

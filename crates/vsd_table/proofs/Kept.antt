@@ -11,11 +11,14 @@ use Rattle.vsd_rule.specs.declared.key.Key.{Key}
 use Rattle.vsd_rule.specs.declared.sizes.Sizes.{Sizes}
 use Rattle.vsd_rule.specs.declared.view.View.{View}
 use Rattle.vsd_rule.specs.Rule.{Rule}
+use Rattle.vsd_rule.specs.Facts.{SmallEpoch}
+use Rattle.vsd_rule.proofs.RuleByRows.{small_epoch}
 use Rattle.vsd_table.specs.StepKind.{Kind, SameSeat, Learns}
 use Rattle.vsd_table.specs.Seating.{key_of, view_of, Belongs}
 use Rattle.vsd_table.specs.Stepping.{May, MayLoad, MayStore, MaySwap, MayExchange, MayAdd}
 use Rattle.vsd_table.specs.declared.shared.Shared.{Shared}
 use Rattle.vsd_table.specs.declared.seated.Seated.{Seated}
+use Rattle.vsd_table.proofs.Seats.{there_now}
 
 -- a step's word and operands say what it was given
 abbrev pub Unique : Kind → Type 0
@@ -49,17 +52,20 @@ module _ (kind : Kind) (unique : Unique kind) (table : Shared) (seated : Seated)
     by_view : (found : ℕ) (after : View) → Learns kind k.sizes index first second v found after → Learns kind v.key.sizes index first second v found after
     by_view found after = subst (λ (key : Key). Learns kind key.sizes index first second v found after) (sym belongs.key)
 
-    may : KeepsBy becomes → May kind table seated index becomes (λ found after. SameSeat v after.0 × Learns kind v.key.sizes index first second v found after.0)
+    small_now : (views : List View) (words : List ℕ) (after : View) → get_elem? views id ≡ some v → Rule k words (set views id after) → SmallEpoch after
+    small_now views words after at rule = small_epoch k words (set views id after) rule id after (there_now views id v after at)
+
+    may : KeepsBy becomes → May kind table seated index becomes (λ found after. SameSeat v after.0 × SmallEpoch after.0 × Learns kind v.key.sizes index first second v found after.0)
     may kept s rule homes at small =
         let n : ℕ = get_or s.words index 0 in
         let here = kept s.words s.views rule at in
-        (here.after, keeps, tt, here.rule, (here.same, by_view n here.after (learns n here.after here.tells)))
+        (here.after, keeps, tt, here.rule, (here.same, small_now s.views _ here.after at here.rule, by_view n here.after (learns n here.after here.tells)))
 
     may_with : (found : ℕ) → ((words : List ℕ) (views : List View) → Rule k words views → get_elem? views id ≡ some v → Keeps kind k (set words index (becomes (get_or words index 0))) views id v x found)
-        → May kind table seated index becomes (λ _ after. SameSeat v after.0 × Learns kind v.key.sizes index first second v found after.0)
+        → May kind table seated index becomes (λ _ after. SameSeat v after.0 × SmallEpoch after.0 × Learns kind v.key.sizes index first second v found after.0)
     may_with found kept s rule homes at small =
         let here = kept s.words s.views rule at in
-        (here.after, keeps, tt, here.rule, (here.same, by_view found here.after (learns found here.after here.tells)))
+        (here.after, keeps, tt, here.rule, (here.same, small_now s.views _ here.after at here.rule, by_view found here.after (learns found here.after here.tells)))
 
   pub may_load : kind.first x ≡ 0 → kind.second x ≡ 0
       → ((words : List ℕ) (views : List View) → Rule k words views → get_elem? views id ≡ some v → Keeps kind k words views id v x (get_or words index 0)) → MayLoad kind table seated index

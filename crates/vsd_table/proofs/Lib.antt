@@ -1,5 +1,6 @@
 pub mod Kept
 pub mod Powers
 pub mod HandleWords
+pub mod EpochWords
 pub mod Seats
 pub mod Laid

@@ -1,5 +1,6 @@
 pub mod Offsets
 pub mod StepKind
 pub mod HandleKinds
+pub mod EpochKinds
 pub mod Seating
 pub mod Stepping

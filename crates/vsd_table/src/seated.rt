@@ -1,5 +1,6 @@
 ghost use Rattle.std.specs.Prelude.{◌≡◌, ◌<◌, ◌≤◌, ◌+◌, true};
 ghost use Rattle.vsd_rule.specs.Layout.{first_row, handle_rows};
+ghost use Rattle.vsd_rule.specs.Facts.{SmallEpoch};
 ghost use Rattle.vsd_rule.specs.Seats.{caller_of, is_caller};
 
 use atomic_table::Seat;
@@ -17,6 +18,7 @@ pub struct Seated {
     ghost numbered: { caller ≡ caller_of seat.me.0.who },
     ghost in_range: { caller < seat.me.0.key.sizes.callers },
     ghost its_rows: { first ≡ first_row seat.me.0.key.sizes caller },
+    ghost small_epoch: { SmallEpoch seat.me.0 },
 }
 
 impl Seated {
