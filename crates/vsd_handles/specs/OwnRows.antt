@@ -31,7 +31,3 @@ pub record IsNext (v : View) (h : Handle) : Type 0 where
   pub lowest : position is_spare v.handles.owned ≡ Some (own_index v h.row)
   pub raised : h.generation ≡ (own_row_word v h.row).generation + 1
   pub in_range : HandleInRange h
-
--- none of the caller's own rows was ever bound
-abbrev pub HasBoundNone : View → Type 0
-HasBoundNone v = v.handles.owned ≡ replicate 64 blank_word

@@ -7,12 +7,14 @@ ghost use Rattle.vsd_handles.specs.Binding.{Binds, Unbinds};
 ghost use Rattle.vsd_handles.specs.OwnRows.{IsOwned, IsNext, is_spare, own_row_word};
 
 use crate::owned::Owned;
+use thiserror::Error;
 use vsd_rows::Hand;
 use vsd_table::Shared;
 use vsd_words::{Handle, HandleWord};
 
 /// None of the caller's 64 rows can be bound: each is live or worn out.
-#[derive(Clone, Copy, PartialEq, Eq, Debug)]
+#[derive(Clone, Copy, PartialEq, Eq, Debug, Error)]
+#[error("none of the caller's 64 rows of handles can be bound")]
 pub struct HandlesFull;
 
 /// Binds the lowest of the caller's rows that is neither live nor worn out to type `t`, and raises

@@ -36,7 +36,8 @@ impl Model for Owned {
 impl Owned {
     ghost use Rattle.std.specs.Prelude.{◌<◌, IfSome, position, replicate, slice_index_or, slice_set};
     ghost use Rattle.vsd_rule.specs.Handles.{blank_word};
-    ghost use Rattle.vsd_handles.specs.OwnRows.{HasBoundNone, is_spare};
+    ghost use Rattle.vsd_rule.specs.Facts.{HasBoundNone};
+    ghost use Rattle.vsd_handles.specs.OwnRows.{is_spare};
 
     /// The words of a caller that has bound no row: all 64 are 0.
     pub fn new(hand: &Hand) -> Owned

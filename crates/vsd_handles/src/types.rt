@@ -6,12 +6,14 @@ ghost use Rattle.vsd_table.specs.Seating.{view_of, key_of, Belongs};
 ghost use Rattle.vsd_handles.specs.OwnRows.{own_row_word};
 ghost use Rattle.vsd_handles.specs.Types.{type_by, LoadsType};
 
+use thiserror::Error;
 use vsd_rows::Hand;
 use vsd_table::Shared;
 use vsd_words::{Handle, HandleWord};
 
 /// The handle names no type now: its row has another generation, or is not live.
-#[derive(Clone, Copy, PartialEq, Eq, Debug)]
+#[derive(Clone, Copy, PartialEq, Eq, Debug, Error)]
+#[error("the handle of row {} at generation {} is unloaded", handle.row, handle.generation)]
 pub struct Unloaded {
     pub handle: Handle,
     /// The handle word that was loaded.

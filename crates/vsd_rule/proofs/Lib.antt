@@ -8,3 +8,14 @@ pub mod NewSeats
 pub mod Opening
 pub mod Splits
 pub mod Laws
+pub mod RowFrames
+pub mod RowMoves
+pub mod RowPins
+pub mod RowClaims
+pub mod RowCells
+pub mod RowLooks
+pub mod RowLimbo
+pub mod CastLooks
+pub mod CastWrites
+pub mod RuleByRows
+pub mod RuleByCasts

@@ -28,7 +28,7 @@ use Rattle.vsd_rule.proofs.HandleSteps.{Grows, grows_none, Apart, bindings_grow,
 use Rattle.vsd_rule.proofs.Stills.{rows_still, casts_still}
 
 -- the list of what is seen of each view, at a seat
-at_seen : {A : Type 0} (f : View → A) (views : List View) (id : ℕ) (v : View) → get_elem? views id ≡ some v → get_elem? (map f views) id ≡ some (f v)
+pub at_seen : {A : Type 0} (f : View → A) (views : List View) (id : ℕ) (v : View) → get_elem? views id ≡ some v → get_elem? (map f views) id ≡ some (f v)
 at_seen f views id v at = at_map f views id v at
 
 -- a binding that a list has is one of the rule's
@@ -49,7 +49,7 @@ whos_again [] = refl
 whos_again (v ∷ vs) = ap (λ (ws : List Who). v.who ∷ ws) (whos_again vs)
 
 -- no other seat knows the words of this caller
-apart_of : (s : Sizes) (whos : List Who) → Seats s whos → (id caller : ℕ) → get_elem? whos id ≡ some (Caller caller) → (seat : ℕ) (who : Who) → seat ≢ id → get_elem? whos seat ≡ some who → Apart caller who
+pub apart_of : (s : Sizes) (whos : List Who) → Seats s whos → (id caller : ℕ) → get_elem? whos id ≡ some (Caller caller) → (seat : ℕ) (who : Who) → seat ≢ id → get_elem? whos seat ≡ some who → Apart caller who
 apart_of s whos seats id caller at seat (Root next) other there = seats.before seat id next caller there at
 apart_of s whos seats id caller at seat (Caller number) other there =
     λ same. other (seats.differ seat id caller (there ∙ ap (λ (c : ℕ). some (Caller c)) same) at)

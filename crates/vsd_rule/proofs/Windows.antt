@@ -133,6 +133,14 @@ module _ (s : Sizes) (words : List ℕ) where
   unfolding zones
   pin_word caller h = eighth_at 8 s.callers caller words h
 
+  pub epoch_word : (zones s words).epoch ≡ get_or words 0 0
+  unfolding zones
+  epoch_word = refl
+
+  pub region_word : (zones s words).region ≡ get_or words (region_at s) 0
+  unfolding zones
+  region_word = refl
+
   -- ---- a write of one kind of word changes its zone alone
 
   pub epoch_written : (x : ℕ) → 0 < length words → zones s (set words 0 x) ≡ record (zones s words) { epoch = x }

@@ -13,3 +13,4 @@ pub mod RowSteps
 pub mod Facts
 pub mod Evidence
 pub mod Opening
+pub mod CastSteps

@@ -1,16 +1,14 @@
 -- What each step on the epoch, on rows, cells, counters and buckets makes of its seat's view.
-use Rattle.std.specs.Prelude.{◌≡◌, ℕ, ◌+◌, ◌/◌, ◌%◌, Bool, ◌&&◌, ◌||◌, nat_eq, nat_lt, nat_le, cond, List, [], ◌∷◌, ◌++◌, Option, Some, None}
+use Rattle.std.specs.Prelude.{ℕ, ◌+◌, ◌/◌, ◌%◌, Bool, ◌&&◌, ◌||◌, nat_eq, nat_lt, nat_le, cond, List, [], ◌∷◌, ◌++◌, Option, Some, None}
 use Rattle.vsd_words.specs.declared.handle.Handle.{Handle}
 use Rattle.vsd_words.specs.declared.cell_word.CellWord.{CellWord}
 use Rattle.vsd_words.specs.declared.cell_word.CellWord.TheVariants.{Lookup, Resolve, Dispatch}
-use Rattle.vsd_words.specs.Handle.{packed_handle}
 use Rattle.vsd_words.specs.CellWord.{packed_cell}
 use Rattle.vsd_rule.specs.declared.key.Key.{Key}
 use Rattle.vsd_rule.specs.declared.row_view.KnownWords.{KnownWords}
 use Rattle.vsd_rule.specs.declared.row_view.ProtectedRow.{ProtectedRow}
 use Rattle.vsd_rule.specs.declared.row_view.Keeping.{Keeping}
 use Rattle.vsd_rule.specs.declared.row_view.Keeping.TheVariants.{Elsewhere, Private, Unlinked, Retired}
-use Rattle.vsd_rule.specs.declared.row_view.KeptRow.{KeptRow}
 use Rattle.vsd_rule.specs.declared.row_view.RetiredRow.{RetiredRow}
 use Rattle.vsd_rule.specs.declared.row_view.Evidence.{Evidence}
 use Rattle.vsd_rule.specs.declared.row_view.RowView.{RowView}

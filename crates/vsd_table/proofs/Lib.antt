@@ -1,4 +1,6 @@
+pub mod Kept
 pub mod Powers
-pub mod Allowed
+pub mod HandleWords
+pub mod EpochWords
 pub mod Seats
 pub mod Laid

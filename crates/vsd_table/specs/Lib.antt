@@ -1,3 +1,6 @@
 pub mod Offsets
-pub mod Plays
+pub mod StepKind
+pub mod HandleKinds
+pub mod EpochKinds
 pub mod Seating
+pub mod Stepping

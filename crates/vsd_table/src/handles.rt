@@ -8,7 +8,7 @@ ghost use Rattle.vsd_rule.specs.Moves.{own_index, after_load_handle, after_bind,
 ghost use Rattle.vsd_rule.specs.Facts.{Knows, KnowsOneBinding, IsOwn, FindsHandle};
 ghost use Rattle.vsd_table.specs.Seating.{key_of, view_of, Belongs, Becomes};
 
-use crate::plays::{Bind, LoadHandle, Unbind};
+use crate::handle_kinds::{Bind, LoadHandle, Unbind};
 use crate::seated::Seated;
 use crate::shared::Shared;
 use vsd_words::HandleWord;
@@ -25,7 +25,7 @@ impl Seated {
         ensures one_binding { KnowsOneBinding (view_of self.new).handles }
     {
         let index = table.handle_index(row);
-        let found = table.table.shared.load::<LoadHandle>(&mut self.seat, index);
+        let found = self.load::<LoadHandle>(table, index);
         unpacked(found)
     }
 
@@ -44,10 +44,7 @@ impl Seated {
     {
         let index = table.handle_index(row);
         let word = word_of(generation, number, true).pack();
-        table
-            .table
-            .shared
-            .store::<Bind>(&mut self.seat, index, word);
+        self.store::<Bind>(table, index, word);
     }
 
     /// Stores the word of one of the caller's own rows as it is, but not live.
@@ -63,10 +60,7 @@ impl Seated {
     {
         let index = table.handle_index(row);
         let word = word_of(generation, number, false).pack();
-        table
-            .table
-            .shared
-            .store::<Unbind>(&mut self.seat, index, word);
+        self.store::<Unbind>(table, index, word);
     }
 }
 

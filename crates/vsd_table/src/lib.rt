@@ -3,12 +3,16 @@
 //! says exactly what it makes of its seat's view, and takes no memory.
 #![tactic(auto)]
 
+mod epoch_kinds;
+mod handle_kinds;
 mod handles;
 mod offsets;
 mod opening;
-mod plays;
+mod pinning;
 mod seated;
 mod shared;
+mod step_kind;
+mod stepping;
 #[cfg(test)]
 mod tests;
 

@@ -26,7 +26,8 @@ impl Offsets {
         ensures few { result.end < 33000 }
     {
         let counts = 8 + 8 * usize::from(sizes.callers);
-        let cells = counts + usize::from(sizes.tokens);
+        // No counter lies on the cache line of a cell, which every call through a stub loads.
+        let cells = counts + usize::from(sizes.tokens) + 7;
         let rows = cells + usize::from(sizes.sites);
         let buckets = rows + 4 * usize::from(sizes.rows);
         let handles = buckets + usize::from(sizes.buckets);

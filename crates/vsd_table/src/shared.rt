@@ -1,6 +1,6 @@
 ghost use Rattle.std.specs.Prelude.{◌≡◌, ◌+◌, ◌<◌};
 ghost use Rattle.vsd_rule.specs.Sizes.{LawfulSizes};
-ghost use Rattle.vsd_rule.specs.Layout.{word_count, handles_from, handle_rows};
+ghost use Rattle.vsd_rule.specs.Layout.{word_count, pin_at, handles_from, handle_rows};
 ghost use Rattle.vsd_table.specs.Offsets.{AreOffsets, SameSizes};
 
 use crate::offsets::Offsets;
@@ -42,6 +42,16 @@ impl Shared {
         ensures lawful { LawfulSizes result }
     {
         self.sizes
+    }
+
+    /// Where a caller's epoch word lies.
+    #[inline]
+    pub(crate) fn pin_index(&self, caller: u16) -> usize
+        requires { caller < (key_of self.now).sizes.callers }
+        ensures index { result ≡ pin_at caller }
+        ensures within { result < self.now.table.shared.table_id.words }
+    {
+        8 + 8 * usize::from(caller)
     }
 
     /// Where the word of a row of handles lies.
