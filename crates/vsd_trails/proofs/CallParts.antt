@@ -1,5 +1,5 @@
 -- The parts of a call's trail: pin, the load of the cell, the look at its row, what comes after, and the end.
-use Rattle.std.proofs.Common.{◌≡◌, ◌≢◌, ◌⊎◌, inl, inr, ℕ, zero, suc, ◌+◌, min, Bool, true, false, List, [], ◌∷◌, ◌++◌, append_assoc, append-nil, Option, Some, None, Result, Ok, Err, refl, sym, ◌∙◌, ap, subst, arith}
+use Rattle.std.proofs.Common.{◌≡◌, ℕ, zero, suc, ◌+◌, min, List, [], ◌∷◌, ◌++◌, append_assoc, Option, Some, None, Result, sym, ◌∙◌, ap, subst}
 use Rattle.vsd_words.specs.declared.handle.Handle.{Handle}
 use Rattle.vsd_words.specs.declared.cell_word.CellWord.{CellWord}
 use Rattle.vsd_words.specs.declared.cell_word.CellWord.TheVariants.{Lookup, Resolve, Dispatch}
@@ -7,23 +7,21 @@ use Rattle.vsd_words.specs.Hash.{bucket_of}
 use Rattle.vsd_rule.specs.declared.key.Key.{Key}
 use Rattle.vsd_rule.specs.declared.row_view.RetiredRow.{RetiredRow}
 use Rattle.vsd_rule.specs.declared.step.Act.{Act}
-use Rattle.vsd_rule.specs.declared.step.Act.TheVariants.{LoadRow, LoadCell, LoadBucket, LoadHandle}
-use Rattle.vsd_rule.specs.declared.step.RowWord.TheVariants as word
+use Rattle.vsd_rule.specs.declared.step.Act.TheVariants.{LoadCell, LoadBucket, LoadHandle}
 use Rattle.vsd_rule.specs.declared.step.Doing.{Doing}
 use Rattle.vsd_rule.specs.declared.step.Doing.TheVariants.{Call}
 use Rattle.vsd_rule.specs.Lists.{site_token}
 use Rattle.vsd_trails.specs.declared.answers.Answer.{Answer}
 use Rattle.vsd_trails.specs.declared.answers.Unloaded.{Unloaded}
 use Rattle.vsd_trails.specs.declared.answers.Found.{Found}
-use Rattle.vsd_trails.specs.declared.answers.Found.TheVariants.{Hit, Other, Empty}
 use Rattle.vsd_trails.specs.Programs.{Fields, TrailStep, Asked, Program, done, bind, after_steps, Runs, EachStep}
 use Rattle.vsd_trails.specs.Words.{unpacked_cell, unpacked_bucket}
-use Rattle.vsd_trails.specs.RowTrails.{pinning, unpinning, claiming_row, claiming_from, claiming, filling, abandoning, seeing_room, retiring, retiring_any, passing, sweeping_oldest, sweeping, unlinking, reading_cell, looking}
-use Rattle.vsd_trails.specs.CallTrails.{finding_in, finding, caching_in, caching, Stubbed, stub_hit, stub_miss, patching, stubbing, installing_in, installing, resolving_by, answering_by, answering, calling}
+use Rattle.vsd_trails.specs.RowTrails.{pinning, unpinning, claiming_row, claiming_from, claiming, filling, seeing_room, retiring, retiring_any, passing, sweeping_oldest, sweeping, unlinking, reading_cell, looking}
+use Rattle.vsd_trails.specs.CallTrails.{finding_in, finding, caching_in, caching, Stubbed, stub_miss, patching, stubbing, installing_in, installing, resolving_by, answering_by, answering, calling}
 use Rattle.vsd_trails.specs.Laws.{TwoRuns}
 use Rattle.vsd_trails.proofs.Runs.{splits, makes_only}
 use Rattle.vsd_trails.proofs.Asking.{Only, nothing, one, sees, and_then, either}
-use Rattle.vsd_trails.proofs.Loads.{OneLoad, one_load, nothing_run, each_append}
+use Rattle.vsd_trails.proofs.Loads.{one_load, nothing_run, each_append}
 
 -- ---- steps that load neither a cell, nor a bucket, nor a handle word
 

@@ -1,5 +1,5 @@
 -- What the answer of a call tells of its trail.
-use Rattle.std.proofs.Common.{◌≡◌, ◌≢◌, ◌⊎◌, inl, inr, ℕ, ◌+◌, Bool, true, false, List, [], ◌∷◌, ◌++◌, map, append_assoc, Option, Some, None, Result, Ok, Err, refl, sym, ◌∙◌, ap, subst, ⊎_elim, if◌then◌else◌, arith}
+use Rattle.std.proofs.Common.{◌≡◌, ℕ, ◌+◌, Bool, true, false, List, [], ◌∷◌, ◌++◌, map, append_assoc, Option, Some, None, Result, Ok, Err, refl, sym, ◌∙◌, ap, subst, ⊎_elim, if◌then◌else◌, arith}
 use Rattle.vsd_words.specs.declared.handle.Handle.{Handle}
 use Rattle.vsd_words.specs.declared.handle_word.HandleWord.{HandleWord}
 use Rattle.vsd_words.specs.declared.cell_word.CellWord.{CellWord}
@@ -9,7 +9,7 @@ use Rattle.vsd_rule.specs.declared.key.Key.{Key}
 use Rattle.vsd_rule.specs.declared.step.Act.{Act}
 use Rattle.vsd_rule.specs.declared.step.Act.TheVariants.{LoadRow, LoadCell, LoadBucket, LoadHandle}
 use Rattle.vsd_rule.specs.declared.step.RowWord.TheVariants as word
-use Rattle.vsd_rule.specs.Lists.{site_token, target_of}
+use Rattle.vsd_rule.specs.Lists.{site_token}
 use Rattle.vsd_rule.specs.RowSteps.{unpacked_handle}
 use Rattle.vsd_trails.specs.declared.answers.Answer.{Answer}
 use Rattle.vsd_trails.specs.declared.answers.Seen.{Seen}
@@ -17,13 +17,13 @@ use Rattle.vsd_trails.specs.declared.answers.Unloaded.{Unloaded}
 use Rattle.vsd_trails.specs.declared.answers.Found.{Found}
 use Rattle.vsd_trails.specs.declared.answers.Found.TheVariants.{Hit, Other, Empty}
 use Rattle.vsd_trails.specs.Programs.{Fields, TrailStep, Asked, asked_act, asked_of, Runs, EachStep}
-use Rattle.vsd_trails.specs.Words.{unpacked_cell, unpacked_handle_word, is_live_at, type_by}
-use Rattle.vsd_trails.specs.CallTrails.{finding_in, Stubbed, stub_hit, stub_miss, stubbing, seen_by, by_stub, by_bucket, by_walk, resolving_by, answering_by, calling}
-use Rattle.vsd_trails.specs.CallPaths.{load_of, InTurn, cell_loads, bucket_loads, HeldByCell, HeldByBucket, HoldsPair, StubTells, BucketTells, CellShown, BucketShown, IsSeen, ShowsUnloaded, IsNoHandleLoad, LoadsNoHandle, AnswerTells}
+use Rattle.vsd_trails.specs.Words.{unpacked_cell, unpacked_handle_word, is_live_at}
+use Rattle.vsd_trails.specs.CallTrails.{Stubbed, stub_hit, stub_miss, stubbing, seen_by, by_stub, resolving_by, answering_by, calling}
+use Rattle.vsd_trails.specs.CallPaths.{load_of, InTurn, cell_loads, bucket_loads, HeldByCell, HeldByBucket, HoldsPair, CellShown, BucketShown, IsSeen, IsNoHandleLoad, LoadsNoHandle, AnswerTells}
 use Rattle.vsd_trails.proofs.Words.{cell_read}
 use Rattle.vsd_trails.proofs.Loads.{nothing_run, each_append, each_weaker, only_there}
 use Rattle.vsd_trails.proofs.CallParts.{IsOther, Others, CallParts, BucketParts, call_parts, bucket_parts}
-use Rattle.vsd_trails.proofs.CallShapes.{HitShape, NoRowShape, OtherShape, hit_shape, miss_shape, EntryHit, EntryOther, EntryEmpty, EntryShape, entry_shape, GoneByBucket, Walk, hit_goes, other_walks, empty_walks}
+use Rattle.vsd_trails.proofs.CallShapes.{NoRowShape, OtherShape, hit_shape, miss_shape, EntryHit, EntryOther, EntryEmpty, EntryShape, entry_shape, Walk, hit_goes, other_walks, empty_walks}
 
 -- ---- kinds of loads
 
@@ -135,8 +135,8 @@ module _ (k : Key) (site : ℕ) (h : Handle) (trail : List TrailStep) (answer : 
       } in
       let none : EachStep LoadsNoHandle p.later = subst (EachStep LoadsNoHandle) (sym e.0) tt in
       let all : EachStep LoadsNoHandle (p.pins ++ p.cell ∷ (p.looks ++ (p.later ++ p.ends))) =
-          each_append LoadsNoHandle p.pins (p.cell ∷ (p.looks ++ (p.later ++ p.ends))) (each_weaker Others LoadsNoHandle (λ c. other_no_handle c.act) p.pins p.pins_others)
-          (step_has IsNoHandleLoad p.cell (LoadCell site) p.cell_is tt, after_cell IsNoHandleLoad other_no_handle none) in
+      each_append LoadsNoHandle p.pins (p.cell ∷ (p.looks ++ (p.later ++ p.ends))) (each_weaker Others LoadsNoHandle (λ c. other_no_handle c.act) p.pins p.pins_others)
+      (step_has IsNoHandleLoad p.cell (LoadCell site) p.cell_is tt, after_cell IsNoHandleLoad other_no_handle none) in
       subst (AnswerTells k site h trail) e.1 (
         record { row = s.row; packed = s.handle.step.found; handle = s.same; loads = loads },
         subst (EachStep LoadsNoHandle) (sym p.whole) all,
@@ -151,17 +151,17 @@ module _ (k : Key) (site : ℕ) (h : Handle) (trail : List TrailStep) (answer : 
       let first_found : two.u.step.found ≡ 2 + held.row = let e = two.first in λ c. (e c).1 in
       let second_found : two.v.step.found ≡ held.packed = let e = two.second in λ c. (e c).1 in
       let place : p.pins ++ p.cell ∷ (p.looks ++ (p.later ++ p.ends)) ≡ held.loads.before ++ two.u ∷ two.v ∷ held.loads.after =
-          sym p.whole ∙ (held.loads.whole ∙ ap (λ (l : List TrailStep). held.loads.before ++ (l ++ held.loads.after)) two.whole) in
+      sym p.whole ∙ (held.loads.whole ∙ ap (λ (l : List TrailStep). held.loads.before ++ (l ++ held.loads.after)) two.whole) in
       let there = only_there Q p.pins p.cell (p.looks ++ (p.later ++ p.ends)) held.loads.before two.u (two.v ∷ held.loads.after)
-          (each_weaker Others Q (λ c. other_no_cell c.act) p.pins p.pins_others) (after_cell IsNoCellLoad other_no_cell later)
-          (act_has IsNoCellLoad two.u (LoadCell site) first_is) place in
+      (each_weaker Others Q (λ c. other_no_cell c.act) p.pins p.pins_others) (after_cell IsNoCellLoad other_no_cell later)
+      (act_has IsNoCellLoad two.u (LoadCell site) first_is) place in
       let names : p.cell.step.found ≡ 2 + held.row = ap (λ (x : TrailStep). x.step.found) there.0 ∙ first_found in
       ⊎_elim
       (λ (s : NoRowShape k site h p.cell.step.found p.looks expected). ⊎_elim (λ zero_. absurd (omega arith)) (λ one_. absurd (omega arith)) s.plain)
       (λ (s : OtherShape k site h p.cell.step.found p.looks expected).
-          let same : s.handle ∷ (s.more ++ (p.later ++ p.ends)) ≡ two.v ∷ held.loads.after = ap (λ (l : List TrailStep). l ++ (p.later ++ p.ends)) (sym s.whole) ∙ there.1 in
-          let step : s.handle ≡ two.v = cc in
-          s.other (ap (λ (x : TrailStep). unpacked_handle x.step.found) step ∙ (ap unpacked_handle second_found ∙ held.handle)))
+      let same : s.handle ∷ (s.more ++ (p.later ++ p.ends)) ≡ two.v ∷ held.loads.after = ap (λ (l : List TrailStep). l ++ (p.later ++ p.ends)) (sym s.whole) ∙ there.1 in
+      let step : s.handle ≡ two.v = cc in
+      s.other (ap (λ (x : TrailStep). unpacked_handle x.step.found) step ∙ (ap unpacked_handle second_found ∙ held.handle)))
       (miss_shape k site h p.cell.step.found p.at_looks p.looks expected (subst (λ (x : Stubbed). Runs k p.at_looks (stubbing k site h (unpacked_cell p.cell.step.found)) p.looks x) is p.looks_run))
 
   -- what the look at the cell shows
@@ -169,28 +169,28 @@ module _ (k : Key) (site : ℕ) (h : Handle) (trail : List TrailStep) (answer : 
   cell_shown expected is =
       ⊎_elim
       (λ (s : NoRowShape k site h p.cell.step.found p.looks expected).
-          let load : (n : ℕ) → p.cell.step.found ≡ n → InTurn trail ((LoadCell site, n) ∷ []) = λ n found. record {
-            before = p.pins;
-            there = p.cell ∷ [];
-            after = p.looks ++ (p.later ++ p.ends);
-            whole = p.whole;
-            same = λ c. (p.cell_is c, found c) ∷ [];
-          } in
-          ⊎_elim
-          (λ (found : p.cell.step.found ≡ 0). subst (λ (n : ℕ). CellShown site h trail (unpacked_cell n) expected) (sym found) (s.none, load 0 found))
-          (λ (found : p.cell.step.found ≡ 1). subst (λ (n : ℕ). CellShown site h trail (unpacked_cell n) expected) (sym found) (s.none, load 1 found))
-          s.plain)
+      let load : (n : ℕ) → p.cell.step.found ≡ n → InTurn trail ((LoadCell site, n) ∷ []) = λ n found. record {
+        before = p.pins;
+        there = p.cell ∷ [];
+        after = p.looks ++ (p.later ++ p.ends);
+        whole = p.whole;
+        same = λ c. (p.cell_is c, found c) ∷ [];
+      } in
+      ⊎_elim
+      (λ (found : p.cell.step.found ≡ 0). subst (λ (n : ℕ). CellShown site h trail (unpacked_cell n) expected) (sym found) (s.none, load 0 found))
+      (λ (found : p.cell.step.found ≡ 1). subst (λ (n : ℕ). CellShown site h trail (unpacked_cell n) expected) (sym found) (s.none, load 1 found))
+      s.plain)
       (λ (s : OtherShape k site h p.cell.step.found p.looks expected).
-          let loads : InTurn trail (cell_loads site s.row s.handle.step.found) = record {
-            before = p.pins;
-            there = p.cell ∷ s.handle ∷ [];
-            after = s.more ++ (p.later ++ p.ends);
-            whole = p.whole ∙ ap (λ (l : List TrailStep). p.pins ++ p.cell ∷ (l ++ (p.later ++ p.ends))) s.whole;
-            same = λ c. (p.cell_is c, s.names c) ∷ (s.handle_is c, s.handle.step.found) ∷ [];
-          } in
-          let cell : Dispatch s.row ≡ unpacked_cell p.cell.step.found = sym (cell_read (Dispatch s.row)) ∙ ap unpacked_cell (sym s.names) in
-          subst (λ (w : CellWord). CellShown site h trail w expected) cell
-          (subst (CellShown site h trail (Dispatch s.row)) (sym s.expects) (s.handle.step.found, refl, s.other, loads)))
+      let loads : InTurn trail (cell_loads site s.row s.handle.step.found) = record {
+        before = p.pins;
+        there = p.cell ∷ s.handle ∷ [];
+        after = s.more ++ (p.later ++ p.ends);
+        whole = p.whole ∙ ap (λ (l : List TrailStep). p.pins ++ p.cell ∷ (l ++ (p.later ++ p.ends))) s.whole;
+        same = λ c. (p.cell_is c, s.names c) ∷ (s.handle_is c, s.handle.step.found) ∷ [];
+      } in
+      let cell : Dispatch s.row ≡ unpacked_cell p.cell.step.found = sym (cell_read (Dispatch s.row)) ∙ ap unpacked_cell (sym s.names) in
+      subst (λ (w : CellWord). CellShown site h trail w expected) cell
+      (subst (CellShown site h trail (Dispatch s.row)) (sym s.expects) (s.handle.step.found, refl, s.other, loads)))
       (miss_shape k site h p.cell.step.found p.at_looks p.looks expected (subst (λ (x : Stubbed). Runs k p.at_looks (stubbing k site h (unpacked_cell p.cell.step.found)) p.looks x) is p.looks_run))
 
   -- ---- by the bucket
@@ -238,7 +238,7 @@ module _ (k : Key) (site : ℕ) (h : Handle) (trail : List TrailStep) (answer : 
         let token = site_token k site in
         let s : EntryHit token h b.named.step.found b.entries target = subst (EntryShape token h b.named.step.found b.entries) hit (entry_shape token h k b.named.step.found b.at_entries b.entries b.found b.entries_run) in
         let goes = hit_goes k site h b.at_rest (unpacked_cell p.cell.step.found) expected target b.rest answer
-            (subst (λ (x : Found). Runs k b.at_rest (resolving_by k site h (unpacked_cell p.cell.step.found) expected x) b.rest answer) hit b.rest_run) in
+        (subst (λ (x : Found). Runs k b.at_rest (resolving_by k site h (unpacked_cell p.cell.step.found) expected x) b.rest answer) hit b.rest_run) in
         let loads : InTurn trail (bucket_loads (bucket_of token h k.sizes.buckets) s.row s.handle.step.found token ++ (LoadRow s.row word.Target, target) ∷ []) = record {
           before = front;
           there = b.named ∷ s.handle ∷ s.its_token ∷ s.loaded ∷ [];
@@ -247,8 +247,8 @@ module _ (k : Key) (site : ℕ) (h : Handle) (trail : List TrailStep) (answer : 
           same = λ c. (b.named_is c, s.names c) ∷ (s.handle_is c, s.handle.step.found) ∷ (s.token_is c, s.same_token c) ∷ (s.loaded_is c, s.target_is c) ∷ [];
         } in
         let all : EachStep LoadsNoHandle (front ++ b.named ∷ (b.entries ++ (b.rest ++ p.ends))) =
-            each_append LoadsNoHandle front (b.named ∷ (b.entries ++ (b.rest ++ p.ends))) (front_has IsNoHandleLoad other_no_handle tt)
-            (step_has IsNoHandleLoad b.named (LoadBucket (bucket_of token h k.sizes.buckets)) b.named_is tt, after_bucket IsNoHandleLoad other_no_handle (each_weaker Others LoadsNoHandle (λ c. other_no_handle c.act) b.rest goes.others)) in
+        each_append LoadsNoHandle front (b.named ∷ (b.entries ++ (b.rest ++ p.ends))) (front_has IsNoHandleLoad other_no_handle tt)
+        (step_has IsNoHandleLoad b.named (LoadBucket (bucket_of token h k.sizes.buckets)) b.named_is tt, after_bucket IsNoHandleLoad other_no_handle (each_weaker Others LoadsNoHandle (λ c. other_no_handle c.act) b.rest goes.others)) in
         let rest : EachStep (λ c. IsNoCellLoad c.act) b.rest = each_weaker Others (λ c. IsNoCellLoad c.act) (λ c. other_no_cell c.act) b.rest goes.others in
         subst (AnswerTells k site h trail) (sym goes.is) (
           record { row = s.row; packed = s.handle.step.found; handle = s.same; loads = loads },
@@ -267,10 +267,10 @@ module _ (k : Key) (site : ℕ) (h : Handle) (trail : List TrailStep) (answer : 
         let second_found : three.v.step.found ≡ held.packed = let e = three.second in λ c. (e c).1 in
         let third_found : three.w.step.found ≡ token = let e = three.third in λ c. (e c).1 in
         let place : front ++ b.named ∷ (b.entries ++ (b.rest ++ p.ends)) ≡ held.loads.before ++ three.u ∷ three.v ∷ three.w ∷ held.loads.after =
-            sym at_bucket ∙ (held.loads.whole ∙ ap (λ (l : List TrailStep). held.loads.before ++ (l ++ held.loads.after)) three.whole) in
+        sym at_bucket ∙ (held.loads.whole ∙ ap (λ (l : List TrailStep). held.loads.before ++ (l ++ held.loads.after)) three.whole) in
         let there = only_there Q front b.named (b.entries ++ (b.rest ++ p.ends)) held.loads.before three.u (three.v ∷ three.w ∷ held.loads.after)
-            (front_has IsNoBucketLoad other_no_bucket tt) (after_bucket IsNoBucketLoad other_no_bucket rest)
-            (act_has IsNoBucketLoad three.u (LoadBucket held.bucket) first_is) place in
+        (front_has IsNoBucketLoad other_no_bucket tt) (after_bucket IsNoBucketLoad other_no_bucket rest)
+        (act_has IsNoBucketLoad three.u (LoadBucket held.bucket) first_is) place in
         let names : b.named.step.found ≡ held.row + 1 = ap (λ (x : TrailStep). x.step.found) there.0 ∙ first_found in
         entry_clash (site_token k site) h b.named.step.found b.entries b.found no_hit (entry_shape token h k b.named.step.found b.at_entries b.entries b.found b.entries_run)
         held.row names three.v three.w (b.rest ++ p.ends) held.loads.after there.1 (ap unpacked_handle second_found ∙ held.handle) third_found
@@ -308,34 +308,34 @@ module _ (k : Key) (site : ℕ) (h : Handle) (trail : List TrailStep) (answer : 
     walk_tells : (seen : Seen) → IsSeen k site h trail seen → ((target : ℕ) → b.found ≡ Hit target → ⊥) → Walk k site h b.rest answer seen → AnswerTells k site h trail answer
     walk_tells seen shown no_hit w =
         let load_has : (P : Act → Type 0) → ((act : Act) → IsOther act → P act) → P (LoadHandle h.row) → EachStep (λ c. P c.act) b.rest = λ P weaker of_load.
-            let Q : Asked → Type 0 = λ c. P c.act in
-            subst (EachStep Q) (sym w.whole) (step_has P w.load (LoadHandle h.row) w.load_is of_load, each_weaker Others Q (λ c. weaker c.act) w.more w.others) in
+        let Q : Asked → Type 0 = λ c. P c.act in
+        subst (EachStep Q) (sym w.whole) (step_has P w.load (LoadHandle h.row) w.load_is of_load, each_weaker Others Q (λ c. weaker c.act) w.more w.others) in
         let unheld : HoldsPair k site h trail → ⊥ = ⊎_elim
-            (cell_unheld expected is (later_has IsNoCellLoad other_no_cell tt (load_has IsNoCellLoad other_no_cell tt)))
-            (bucket_unheld (load_has IsNoBucketLoad other_no_bucket tt) no_hit) in
+        (cell_unheld expected is (later_has IsNoCellLoad other_no_cell tt (load_has IsNoCellLoad other_no_cell tt)))
+        (bucket_unheld (load_has IsNoBucketLoad other_no_bucket tt) no_hit) in
         ⊎_elim
         (λ walked. subst (AnswerTells k site h trail) (sym walked.2) (shown, unheld))
         (λ gone.
-            let u = gone.0 in
-            let e = chosen_err (is_live_at h.generation (unpacked_handle_word w.load.step.found)) (unpacked_handle_word w.load.step.found).number (record { handle = h; found = unpacked_handle_word w.load.step.found }) u gone.1 in
-            let word : unpacked_handle_word w.load.step.found ≡ u.found = ap (λ (x : Unloaded). x.found) e.1 in
-            let load : InTurn trail ((LoadHandle h.row, w.load.step.found) ∷ []) = record {
-              before = front ++ b.named ∷ b.entries;
-              there = w.load ∷ [];
-              after = w.more ++ p.ends;
-              whole = at_bucket ∙ (ap (λ (l : List TrailStep). front ++ b.named ∷ (b.entries ++ (l ++ p.ends))) w.whole ∙ sym (append_assoc front (b.named ∷ b.entries) (w.load ∷ (w.more ++ p.ends))));
-              same = λ c. (w.load_is c, w.load.step.found) ∷ [];
-            } in
-            subst (AnswerTells k site h trail) (sym gone.2) (
-              record {
-                handle = ap (λ (x : Unloaded). x.handle) (sym e.1);
-                gone = subst (λ (x : HandleWord). is_live_at h.generation x ≡ false) word e.0;
-                packed = w.load.step.found;
-                word = word;
-                load = load;
-              },
-              unheld,
-            ))
+        let u = gone.0 in
+        let e = chosen_err (is_live_at h.generation (unpacked_handle_word w.load.step.found)) (unpacked_handle_word w.load.step.found).number (record { handle = h; found = unpacked_handle_word w.load.step.found }) u gone.1 in
+        let word : unpacked_handle_word w.load.step.found ≡ u.found = ap (λ (x : Unloaded). x.found) e.1 in
+        let load : InTurn trail ((LoadHandle h.row, w.load.step.found) ∷ []) = record {
+          before = front ++ b.named ∷ b.entries;
+          there = w.load ∷ [];
+          after = w.more ++ p.ends;
+          whole = at_bucket ∙ (ap (λ (l : List TrailStep). front ++ b.named ∷ (b.entries ++ (l ++ p.ends))) w.whole ∙ sym (append_assoc front (b.named ∷ b.entries) (w.load ∷ (w.more ++ p.ends))));
+          same = λ c. (w.load_is c, w.load.step.found) ∷ [];
+        } in
+        subst (AnswerTells k site h trail) (sym gone.2) (
+          record {
+            handle = ap (λ (x : Unloaded). x.handle) (sym e.1);
+            gone = subst (λ (x : HandleWord). is_live_at h.generation x ≡ false) word e.0;
+            packed = w.load.step.found;
+            word = word;
+            load = load;
+          },
+          unheld,
+        ))
         w.by_type
 
     miss_tells : (found : Found) → b.found ≡ found → AnswerTells k site h trail answer
@@ -354,7 +354,7 @@ module _ (k : Key) (site : ℕ) (h : Handle) (trail : List TrailStep) (answer : 
   parts_tell (stub_hit target) is = stub_tells target is
   parts_tell (stub_miss expected) is =
       let b = bucket_parts k site h p.at_later (unpacked_cell p.cell.step.found) expected p.later answer
-          (subst (λ (x : Stubbed). Runs k p.at_later (answering_by k site h (unpacked_cell p.cell.step.found) x) p.later answer) is p.later_run) in
+      (subst (λ (x : Stubbed). Runs k p.at_later (answering_by k site h (unpacked_cell p.cell.step.found) x) p.later answer) is p.later_run) in
       miss_tells expected is b b.found refl
 
 pub answer_tells : (k : Key) (site : ℕ) (h : Handle) (f : Fields) (trail : List TrailStep) (answer : Result Answer Unloaded) → Runs k f (calling k site h) trail answer → AnswerTells k site h trail answer

@@ -1,9 +1,8 @@
 -- What the looks of a call at its cell and its bucket come to, and what comes after a look at the bucket.
-use Rattle.std.proofs.Common.{◌≡◌, ◌≢◌, ◌⊎◌, inl, inr, ℕ, zero, suc, ◌+◌, Bool, true, false, ◌&&◌, nat_eq, List, [], ◌∷◌, ◌++◌, append-nil, Option, Some, None, Result, Ok, Err, refl, sym, ◌∙◌, ap, subst, ⊎_elim, arith}
+use Rattle.std.proofs.Common.{◌≡◌, ◌≢◌, ◌⊎◌, inl, inr, ℕ, zero, suc, ◌+◌, true, false, ◌&&◌, nat_eq, List, [], ◌∷◌, ◌++◌, append-nil, Option, Some, None, Result, Ok, Err, refl, sym, ◌∙◌, ap, subst, ⊎_elim, arith}
 use Rattle.std.proofs.lemmas.Bool.{eqb-true, eq-eqb}
 use Rattle.vsd_words.specs.declared.handle.Handle.{Handle}
 use Rattle.vsd_words.specs.declared.cell_word.CellWord.{CellWord}
-use Rattle.vsd_words.specs.Hash.{bucket_of}
 use Rattle.vsd_rule.specs.declared.key.Key.{Key}
 use Rattle.vsd_rule.specs.declared.step.Act.TheVariants.{LoadRow, LoadHandle}
 use Rattle.vsd_rule.specs.declared.step.RowWord.TheVariants as word
@@ -14,12 +13,11 @@ use Rattle.vsd_trails.specs.declared.answers.Seen.{Seen}
 use Rattle.vsd_trails.specs.declared.answers.Unloaded.{Unloaded}
 use Rattle.vsd_trails.specs.declared.answers.Found.{Found}
 use Rattle.vsd_trails.specs.declared.answers.Found.TheVariants.{Hit, Other, Empty}
-use Rattle.vsd_trails.specs.Programs.{Fields, TrailStep, Asked, Program, done, bind, after_steps, Runs, EachStep}
-use Rattle.vsd_trails.specs.Words.{unpacked_cell, unpacked_bucket, unpacked_handle_word, is_live_at, type_by, same_handle}
-use Rattle.vsd_trails.specs.RowTrails.{reading, reading_handle, reading_token, typing}
-use Rattle.vsd_trails.specs.CallTrails.{finding_in, caching, Stubbed, stub_hit, stub_miss, patching, stubbing, installing, seen_by, by_bucket, by_walk, walking_by, walking, resolving_by}
+use Rattle.vsd_trails.specs.Programs.{Fields, TrailStep, after_steps, Runs, EachStep}
+use Rattle.vsd_trails.specs.Words.{unpacked_cell, unpacked_bucket, unpacked_handle_word, type_by, same_handle}
+use Rattle.vsd_trails.specs.RowTrails.{reading_handle, reading_token, typing}
+use Rattle.vsd_trails.specs.CallTrails.{finding_in, caching, stub_hit, stub_miss, patching, stubbing, installing, seen_by, by_bucket, by_walk, walking_by, walking, resolving_by}
 use Rattle.vsd_trails.proofs.Runs.{splits, makes_only}
-use Rattle.vsd_trails.proofs.Asking.{Only}
 use Rattle.vsd_trails.proofs.Loads.{one_load, nothing_run, branch, same_handle-true, same_handle-false, same_handle-refl, and_both, each_append}
 use Rattle.vsd_trails.proofs.CallParts.{Others, installing_others, caching_others}
 
@@ -65,21 +63,21 @@ module _ (k : Key) (site : ℕ) (h : Handle) where
       let g = after_steps k f a.front in
       ⊎_elim
       (λ same.
-          let loaded = one_load k g (LoadRow row word.Target) None stub_hit a.rest (stub_hit target) tt same.1 in
-          record {
-            row = row;
-            names = omega arith;
-            handle = handle.step;
-            loaded = loaded.step;
-            whole = a.whole ∙ (ap (λ (l : List TrailStep). l ++ a.rest) handle.is ∙ ap (λ (l : List TrailStep). handle.step ∷ l) loaded.is);
-            handle_is = handle.act_is;
-            same = handle.answer ∙ same_handle-true a.answer h same.0;
-            loaded_is = loaded.act_is;
-            target_is = let e = loaded.answer in cc;
-          })
+      let loaded = one_load k g (LoadRow row word.Target) None stub_hit a.rest (stub_hit target) tt same.1 in
+      record {
+        row = row;
+        names = omega arith;
+        handle = handle.step;
+        loaded = loaded.step;
+        whole = a.whole ∙ (ap (λ (l : List TrailStep). l ++ a.rest) handle.is ∙ ap (λ (l : List TrailStep). handle.step ∷ l) loaded.is);
+        handle_is = handle.act_is;
+        same = handle.answer ∙ same_handle-true a.answer h same.0;
+        loaded_is = loaded.act_is;
+        target_is = let e = loaded.answer in cc;
+      })
       (λ other. let b = splits k g (patching k site h row) _ a.rest (stub_hit target) other.1 in
-          let e = nothing_run k (after_steps k g b.front) b.rest (stub_miss (Some a.answer)) (stub_hit target) b.second in
-          let same = e.1 in absurd (cc))
+      let e = nothing_run k (after_steps k g b.front) b.rest (stub_miss (Some a.answer)) (stub_hit target) b.second in
+      let same = e.1 in absurd (cc))
       (branch k g (same_handle a.answer h) _ _ a.rest (stub_hit target) a.second)
 
   pub miss_shape : (found : ℕ) (f : Fields) (looks : List TrailStep) (expected : Option Handle) → Runs k f (stubbing k site h (unpacked_cell found)) looks (stub_miss expected)
@@ -93,22 +91,22 @@ module _ (k : Key) (site : ℕ) (h : Handle) where
       let g = after_steps k f a.front in
       inr (⊎_elim
       (λ same.
-          let loaded = one_load k g (LoadRow row word.Target) None stub_hit a.rest (stub_miss expected) tt same.1 in
-          let e = loaded.answer in absurd (cc))
+      let loaded = one_load k g (LoadRow row word.Target) None stub_hit a.rest (stub_miss expected) tt same.1 in
+      let e = loaded.answer in absurd (cc))
       (λ other. let b = splits k g (patching k site h row) _ a.rest (stub_miss expected) other.1 in
-          let e = nothing_run k (after_steps k g b.front) b.rest (stub_miss (Some a.answer)) (stub_miss expected) b.second in
-          let given = e.1 in
-          let expects : expected ≡ Some a.answer = cc in
-          record {
-            row = row;
-            names = omega arith;
-            handle = handle.step;
-            more = a.rest;
-            whole = a.whole ∙ ap (λ (l : List TrailStep). l ++ a.rest) handle.is;
-            handle_is = handle.act_is;
-            expects = expects ∙ ap (λ (x : Handle). Some x) (sym handle.answer);
-            other = subst (λ (x : Handle). x ≢ h) (sym handle.answer) (same_handle-false a.answer h other.0);
-          })
+      let e = nothing_run k (after_steps k g b.front) b.rest (stub_miss (Some a.answer)) (stub_miss expected) b.second in
+      let given = e.1 in
+      let expects : expected ≡ Some a.answer = cc in
+      record {
+        row = row;
+        names = omega arith;
+        handle = handle.step;
+        more = a.rest;
+        whole = a.whole ∙ ap (λ (l : List TrailStep). l ++ a.rest) handle.is;
+        handle_is = handle.act_is;
+        expects = expects ∙ ap (λ (x : Handle). Some x) (sym handle.answer);
+        other = subst (λ (x : Handle). x ≢ h) (sym handle.answer) (same_handle-false a.answer h other.0);
+      })
       (branch k g (same_handle a.answer h) _ _ a.rest (stub_miss expected) a.second))
 
 -- ---- a look at the bucket
@@ -175,35 +173,35 @@ module _ (token : ℕ) (h : Handle) where
         let whole : entries ≡ handle.step ∷ its_token.step ∷ b.rest = a.whole ∙ (ap (λ (l : List TrailStep). l ++ a.rest) handle.is ∙ ap (λ (l : List TrailStep). handle.step ∷ l) (b.whole ∙ ap (λ (l : List TrailStep). l ++ b.rest) its_token.is)) in
         ⊎_elim
         (λ same.
-            let loaded = one_load k f2 (LoadRow row word.Target) None Hit b.rest what tt same.1 in
-            let both = both_same a.answer b.answer same.0 in
-            subst (EntryShape (suc row) entries) loaded.answer (record {
-              row = row;
-              names = omega arith;
-              handle = handle.step;
-              its_token = its_token.step;
-              loaded = loaded.step;
-              whole = whole ∙ ap (λ (l : List TrailStep). handle.step ∷ its_token.step ∷ l) loaded.is;
-              handle_is = handle.act_is;
-              same = handle.answer ∙ both.0;
-              token_is = its_token.act_is;
-              same_token = its_token.answer ∙ both.1;
-              loaded_is = loaded.act_is;
-              target_is = refl;
-            }))
+        let loaded = one_load k f2 (LoadRow row word.Target) None Hit b.rest what tt same.1 in
+        let both = both_same a.answer b.answer same.0 in
+        subst (EntryShape (suc row) entries) loaded.answer (record {
+          row = row;
+          names = omega arith;
+          handle = handle.step;
+          its_token = its_token.step;
+          loaded = loaded.step;
+          whole = whole ∙ ap (λ (l : List TrailStep). handle.step ∷ its_token.step ∷ l) loaded.is;
+          handle_is = handle.act_is;
+          same = handle.answer ∙ both.0;
+          token_is = its_token.act_is;
+          same_token = its_token.answer ∙ both.1;
+          loaded_is = loaded.act_is;
+          target_is = refl;
+        }))
         (λ other. let e = nothing_run k f2 b.rest (Other a.answer b.answer) what other.1 in
-            subst (EntryShape (suc row) entries) e.1 (record {
-              row = row;
-              names = omega arith;
-              handle = handle.step;
-              its_token = its_token.step;
-              whole = whole ∙ ap (λ (l : List TrailStep). handle.step ∷ its_token.step ∷ l) e.0;
-              handle_is = handle.act_is;
-              its_handle = handle.answer;
-              token_is = its_token.act_is;
-              found_token = its_token.answer;
-              other = not_both a.answer b.answer other.0;
-            }))
+        subst (EntryShape (suc row) entries) e.1 (record {
+          row = row;
+          names = omega arith;
+          handle = handle.step;
+          its_token = its_token.step;
+          whole = whole ∙ ap (λ (l : List TrailStep). handle.step ∷ its_token.step ∷ l) e.0;
+          handle_is = handle.act_is;
+          its_handle = handle.answer;
+          token_is = its_token.act_is;
+          found_token = its_token.answer;
+          other = not_both a.answer b.answer other.0;
+        }))
         (branch k f2 (same_handle a.answer h && nat_eq b.answer token) _ _ b.rest what b.second)
 
 -- ---- what comes after the look at the bucket
@@ -258,7 +256,7 @@ module _ (k : Key) (site : ℕ) (h : Handle) where
       let a = splits k f (typing h) (walking_by k site h cell seen) rest answer runs in
       let load = one_load k f (LoadHandle h.row) None (λ word. type_by h (unpacked_handle_word word)) a.front a.answer tt a.first in
       let e = walk_ends (after_steps k f a.front) cell seen (type_by h (unpacked_handle_word load.step.step.found)) a.rest answer
-          (subst (λ (t : Result ℕ Unloaded). Runs k (after_steps k f a.front) (walking_by k site h cell seen t) a.rest answer) (sym load.answer) a.second) in
+      (subst (λ (t : Result ℕ Unloaded). Runs k (after_steps k f a.front) (walking_by k site h cell seen t) a.rest answer) (sym load.answer) a.second) in
       record { load = load.step; more = a.rest; whole = a.whole ∙ ap (λ (l : List TrailStep). l ++ a.rest) load.is; load_is = load.act_is; others = e.0; by_type = e.1 }
 
   pub other_walks : (f : Fields) (cell : CellWord) (expected : Option Handle) (g : Handle) (t : ℕ) (rest : List TrailStep) (answer : Result Answer Unloaded)

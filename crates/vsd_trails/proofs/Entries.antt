@@ -1,12 +1,12 @@
 -- The entries of the four operations, and the programs that begin none.
-use Rattle.std.proofs.Common.{◌≡◌, ℕ, zero, suc, ◌+◌, List, [], ◌∷◌, Option, Some, None, Bool, true, false, refl}
+use Rattle.std.proofs.Common.{◌≡◌, ℕ, zero, suc, ◌+◌, List, [], ◌∷◌, Some, None, refl}
 use Rattle.vsd_words.specs.declared.handle.Handle.{Handle}
 use Rattle.vsd_rule.specs.declared.key.Key.{Key}
 use Rattle.vsd_rule.specs.declared.row_view.RetiredRow.{RetiredRow}
 use Rattle.vsd_rule.specs.declared.step.Act.TheVariants.{Epoch, LoadRegion, Bind}
 use Rattle.vsd_rule.specs.declared.step.Begins.TheVariants.{Operation, Cast}
 use Rattle.vsd_rule.specs.declared.step.Doing.TheVariants.{Nothing, Call, Unload}
-use Rattle.vsd_trails.specs.Programs.{Fields, TrailStep, Asked, Program, bind, when◌then◌else◌, asked_of, Runs, onto, AsksOnly, EachStep}
+use Rattle.vsd_trails.specs.Programs.{Fields, TrailStep, Asked, Program, bind, Runs}
 use Rattle.vsd_trails.specs.RowTrails.{pinning, unpinning, typing, passing, sweeping_oldest, sweeping}
 use Rattle.vsd_trails.specs.CallTrails.{calling}
 use Rattle.vsd_trails.specs.CastTrails.{finding_cast, casting}

@@ -1,8 +1,8 @@
 -- What steps make of a log: a whole trail adds its entry, foreign steps add nothing, and a list of steps has one log.
-use Rattle.std.proofs.Common.{◌≡◌, ℕ, List, [], ◌∷◌, ◌++◌, append_assoc, Option, Some, None, refl, sym, ◌∙◌, ap, subst}
+use Rattle.std.proofs.Common.{◌≡◌, List, [], ◌∷◌, ◌++◌, append_assoc, Option, Some, None, refl, sym, ◌∙◌, ap, subst}
 use Rattle.vsd_rule.specs.declared.key.Key.{Key}
 use Rattle.vsd_trails.specs.Programs.{Fields, TrailStep, Asked, Program, done, look, ask, asked_of, fields_at, Runs, onto, EachStep}
-use Rattle.vsd_trails.specs.Logs.{Entry, Log, empty_log, first_of, PassesOver, Finishes, GoesOn, Adds, passes_over, finishes, goes_on, IsLog}
+use Rattle.vsd_trails.specs.Logs.{Entry, Log, first_of, Adds, passes_over, finishes, goes_on, IsLog}
 use Rattle.vsd_trails.proofs.Runs.{one_answer, ends_once}
 
 -- the first step stays the first

@@ -1,7 +1,7 @@
 -- The laws of runs, each by induction on the program or the list of steps.
-use Rattle.std.proofs.Common.{◌≡◌, ℕ, ◌+◌, ◌≤◌, List, [], ◌∷◌, ◌++◌, length, refl, sym, ◌∙◌, ap, subst, arith}
+use Rattle.std.proofs.Common.{◌≡◌, ℕ, ◌≤◌, List, [], ◌∷◌, ◌++◌, length, refl, sym, ◌∙◌, ap, subst, arith}
 use Rattle.vsd_rule.specs.declared.key.Key.{Key}
-use Rattle.vsd_trails.specs.Programs.{Fields, TrailStep, Asked, Program, done, look, ask, bind, after_step, after_steps, asked_of, Runs, onto, AtMost, AsksOnly, EachStep}
+use Rattle.vsd_trails.specs.Programs.{Fields, TrailStep, Asked, Program, done, look, ask, bind, after_step, after_steps, Runs, onto, AtMost, AsksOnly, EachStep}
 use Rattle.vsd_trails.specs.Laws.{TwoRuns}
 
 pub one_answer : {A : Type 0} (k : Key) (f : Fields) (p : Program A) (xs : List TrailStep) (a b : A) → Runs k f p xs a → Runs k f p xs b → a ≡ b

@@ -1,12 +1,12 @@
 -- What is packed is what is read.
-use Rattle.std.proofs.Common.{◌≡◌, ℕ, suc, ◌+◌, ◌*◌, ◌/◌, ◌%◌, ◌<◌, ◌^◌, Option, Some, None, refl, sym, ◌∙◌, ap, subst, add-one, arith}
+use Rattle.std.proofs.Common.{◌≡◌, ℕ, suc, ◌+◌, ◌/◌, Option, Some, None, refl, sym, ap, subst, add-one, arith}
 use Rattle.vsd_words.specs.declared.handle.Handle.{Handle}
 use Rattle.vsd_words.specs.declared.cell_word.CellWord.{CellWord}
 use Rattle.vsd_words.specs.declared.cell_word.CellWord.TheVariants.{Lookup, Resolve, Dispatch}
 use Rattle.vsd_words.specs.declared.handle_word.HandleWord.{HandleWord}
 use Rattle.vsd_words.specs.declared.cast_word.CastWord.{CastWord}
 use Rattle.vsd_words.specs.Handle.{IsHandlePacking}
-use Rattle.vsd_words.specs.CellWord.{packed_cell, IsCellPacking}
+use Rattle.vsd_words.specs.CellWord.{packed_cell}
 use Rattle.vsd_words.specs.HandleWord.{IsHandleWordPacking}
 use Rattle.vsd_words.specs.CastWord.{IsCastPacking}
 use Rattle.vsd_words.proofs.Packings.{handle_packing-below, handle_packing-one_to_one, handle_of_word, handle_word_packing-below, handle_word_packing-one_to_one, handle_word_of_word, cast_packing-one_to_one, cast_of_word, target_of_cast}

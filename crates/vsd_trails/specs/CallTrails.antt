@@ -1,5 +1,5 @@
 -- The trail of a call: its look at the cell (a dispatch stub), at the bucket (a resolve stub), and its walk.
-use Rattle.std.specs.Prelude.{ℕ, ◌+◌, nat_eq, nat_le, Bool, ◌&&◌, Option, Some, None, Result, Ok, Err}
+use Rattle.std.specs.Prelude.{ℕ, nat_eq, nat_le, ◌&&◌, Option, Some, None, Result, Ok, Err}
 use Rattle.vsd_words.specs.declared.handle.Handle.{Handle}
 use Rattle.vsd_words.specs.declared.cell_word.CellWord.{CellWord}
 use Rattle.vsd_words.specs.declared.cell_word.CellWord.TheVariants.{Lookup, Resolve, Dispatch}
@@ -32,8 +32,8 @@ finding_in token h (Some row) = do
   g ← reading_handle row
   t ← reading_token row
   when same_handle g h && nat_eq t token
-    then reading (LoadRow row Target) Hit
-    else done (Other g t)
+      then reading (LoadRow row Target) Hit
+      else done (Other g t)
 
 unfoldable pub finding : Key → ℕ → Handle → Program Found
 finding k token h = looking (bucket_of token h k.sizes.buckets) >>= finding_in token h
@@ -92,8 +92,8 @@ module _ (k : Key) (site : ℕ) (h : Handle) where
   stubbing (Dispatch row) = do
     g ← reading_handle row
     when same_handle g h
-      then reading (LoadRow row Target) stub_hit
-      else (patching row >> done (stub_miss (Some g)))
+        then reading (LoadRow row Target) stub_hit
+        else (patching row >> done (stub_miss (Some g)))
 
   -- Fill the row and try one exchange of the cell from Lookup. Where it is lost, give the row up.
   unfoldable pub installing_in : ℕ → Option ℕ → Program (Unit {0})

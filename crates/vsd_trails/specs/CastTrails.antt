@@ -1,5 +1,5 @@
 -- The trail of a cast: the probes of the cast cache, the walk, and what it writes.
-use Rattle.std.specs.Prelude.{ℕ, zero, suc, ◌+◌, ◌-◌, ◌*◌, ◌%◌, ◌^◌, nat_eq, nat_lt, nat_le, Bool, true, false, ◌&&◌, ◌||◌, not, List, [], ◌∷◌, ◌++◌, slice_index, Option, Some, None, Result, Ok, Err, if◌then◌else◌}
+use Rattle.std.specs.Prelude.{ℕ, zero, suc, ◌+◌, ◌*◌, ◌%◌, ◌^◌, nat_eq, nat_lt, nat_le, Bool, true, false, ◌&&◌, ◌||◌, not, List, [], ◌∷◌, ◌++◌, slice_index, Option, Some, None, Result, Ok, Err, if◌then◌else◌}
 use Rattle.std.specs.List.{position}
 use Rattle.vsd_words.specs.declared.handle.Handle.{Handle}
 use Rattle.vsd_words.specs.declared.cast_word.CastWord.{CastWord}
@@ -99,8 +99,8 @@ module _ (k : Key) (m : Miss) (source target : Handle) (answer : Bool) where
     when is_busy version then done (Nothing (lost.Busy version)) else do
       found ← making_odd m.region row version
       when nat_eq found version
-        then publishing m.region row source (record { target = target; yes = answer }) version
-        else done (Nothing (lost.Claim found))
+          then publishing m.region row source (record { target = target; yes = answer }) version
+          else done (Nothing (lost.Claim found))
 
   -- Try one exchange of the region to the next.
   unfoldable pub growing : Program Put

@@ -1,12 +1,11 @@
 -- The operations, each with the step that begins it and with its program.
-use Rattle.std.specs.Prelude.{◌≡◌, ℕ, cond, Bool, true, false, List, [], ◌∷◌, drop, Option, Some, None, Result}
+use Rattle.std.specs.Prelude.{ℕ, cond, Bool, true, false, List, [], ◌∷◌, drop, Option, Some, None, Result}
 use Rattle.vsd_words.specs.declared.handle.Handle.{Handle}
 use Rattle.vsd_rule.specs.declared.key.Key.{Key}
 use Rattle.vsd_rule.specs.declared.step.Act.{Act}
 use Rattle.vsd_rule.specs.declared.step.Act.TheVariants.{Epoch, LoadRegion, Bind}
 use Rattle.vsd_rule.specs.declared.step.Begins.{Begins}
 use Rattle.vsd_rule.specs.declared.step.Begins.TheVariants.{Operation, Cast}
-use Rattle.vsd_rule.specs.declared.step.Doing.{Doing}
 use Rattle.vsd_rule.specs.declared.step.Doing.TheVariants.{Nothing, Call, Unload}
 use Rattle.vsd_rule.specs.declared.step.Step.{Step}
 use Rattle.vsd_trails.specs.declared.answers.Answer.{Answer}

@@ -1,5 +1,5 @@
 -- Programs over the shared table, as data, and the lists of steps that are runs of them.
-use Rattle.std.specs.Prelude.{◌≡◌, ℕ, suc, ◌+◌, ◌≤◌, nat_lt, cond, Bool, true, false, List, [], ◌∷◌, ◌++◌, drop, Option, Some, None}
+use Rattle.std.specs.Prelude.{◌≡◌, ℕ, ◌+◌, ◌≤◌, Bool, true, false, List, [], ◌∷◌, ◌++◌, Option}
 use Rattle.vsd_rule.specs.declared.key.Key.{Key}
 use Rattle.vsd_rule.specs.declared.row_view.RetiredRow.{RetiredRow}
 use Rattle.vsd_rule.specs.declared.step.Act.{Act}
@@ -40,7 +40,6 @@ bind (look p) g = look (λ f. bind (p f) g)
 bind (ask c p) g = ask c (λ word. bind (p word) g)
 
 infixl 10 ◌>>=◌ ◌>>◌
-
 abbrev pub ◌>>=◌ : {A B : Type 0} → Program A → (A → Program B) → Program B
 p >>= g = bind p g
 
@@ -50,7 +49,6 @@ p >> q = bind p (λ answer. q)
 
 -- one program or another, by a test
 infix 5 when◌then◌else◌
-
 unfoldable pub when◌then◌else◌ : {A : Type 0} → Bool → Program A → Program A → Program A
 when◌then◌else◌ true p q = p
 when◌then◌else◌ false p q = q

@@ -6,9 +6,7 @@ use Rattle.vsd_rule.specs.declared.key.Key.{Key}
 use Rattle.vsd_rule.specs.declared.row_view.RetiredRow.{RetiredRow}
 use Rattle.vsd_rule.specs.declared.step.Act.{Act}
 use Rattle.vsd_rule.specs.declared.step.Act.TheVariants.{Epoch, Pin, Unpin, Claim, SetHandle, SetToken, SetTarget, LoadRow, Free, LoadCell, LoadBucket, PutBucket, EmptyBucket, LoadHandle, EpochToRetire, Raise, EpochOf, FreeSwept}
-use Rattle.vsd_rule.specs.declared.step.RowWord.{RowWord}
 use Rattle.vsd_rule.specs.declared.step.RowWord.TheVariants as row_word
-use Rattle.vsd_rule.specs.declared.step.Begins.{Begins}
 use Rattle.vsd_rule.specs.declared.step.Begins.TheVariants.{Operation}
 use Rattle.vsd_rule.specs.declared.step.Doing.{Doing}
 use Rattle.vsd_rule.specs.RowSteps.{next_row, unpacked_handle, is_clear}

@@ -4,7 +4,7 @@ use Rattle.vsd_trails.specs.CallTrails.{calling}
 use Rattle.vsd_trails.specs.CastTrails.{casting}
 use Rattle.vsd_trails.specs.UnloadTrails.{binding, unloading}
 use Rattle.vsd_trails.proofs.Runs.{is_bounded}
-use Rattle.vsd_trails.proofs.Bounds.{one, at_sweeping}
+use Rattle.vsd_trails.proofs.Bounds.{at_sweeping}
 use Rattle.vsd_trails.proofs.CallBounds.{at_calling, at_casting, at_binding, at_unloading}
 use Rattle.vsd_trails.proofs.laws.takes_few_steps.Goals as goal
 
