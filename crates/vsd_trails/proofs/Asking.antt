@@ -29,3 +29,11 @@ module _ (P : Asked → Type 0) where
   unfolding when◌then◌else◌
   either true f g = record { only = f.only }
   either false f g = record { only = g.only }
+
+weaker_asks : {A : Type 0} (P Q : Asked → Type 0) → ((c : Asked) → P c → Q c) → (p : Program A) → AsksOnly P p → AsksOnly Q p
+weaker_asks P Q weaker (done a) only = tt
+weaker_asks P Q weaker (look p) only = λ f. weaker_asks P Q weaker (p f) (only f)
+weaker_asks P Q weaker (ask c p) only = (weaker c only.0, λ word. weaker_asks P Q weaker (p word) (only.1 word))
+
+pub only_weaker : {A : Type 0} (P Q : Asked → Type 0) {p : Program A} → ((c : Asked) → P c → Q c) → Only P p → Only Q p
+only_weaker P Q {p} weaker f = record { only = weaker_asks P Q weaker p f.only }

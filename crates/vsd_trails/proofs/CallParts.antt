@@ -1,5 +1,5 @@
 -- The parts of a call's trail: pin, the load of the cell, the look at its row, what comes after, and the end.
-use Rattle.std.proofs.Common.{◌≡◌, ℕ, zero, suc, ◌+◌, min, List, [], ◌∷◌, ◌++◌, append_assoc, Option, Some, None, Result, sym, ◌∙◌, ap, subst}
+use Rattle.std.proofs.Common.{◌≡◌, ℕ, zero, suc, ◌+◌, min, List, [], ◌∷◌, ◌++◌, append_assoc, Option, Some, None, Result, Ok, Err, refl, sym, ◌∙◌, ap, subst}
 use Rattle.vsd_words.specs.declared.handle.Handle.{Handle}
 use Rattle.vsd_words.specs.declared.cell_word.CellWord.{CellWord}
 use Rattle.vsd_words.specs.declared.cell_word.CellWord.TheVariants.{Lookup, Resolve, Dispatch}
@@ -12,15 +12,17 @@ use Rattle.vsd_rule.specs.declared.step.Doing.{Doing}
 use Rattle.vsd_rule.specs.declared.step.Doing.TheVariants.{Call}
 use Rattle.vsd_rule.specs.Lists.{site_token}
 use Rattle.vsd_trails.specs.declared.answers.Answer.{Answer}
+use Rattle.vsd_trails.specs.declared.answers.Seen.{Seen}
 use Rattle.vsd_trails.specs.declared.answers.Unloaded.{Unloaded}
 use Rattle.vsd_trails.specs.declared.answers.Found.{Found}
-use Rattle.vsd_trails.specs.Programs.{Fields, TrailStep, Asked, Program, done, bind, after_steps, Runs, EachStep}
+use Rattle.vsd_trails.specs.declared.answers.Found.TheVariants.{Hit, Other, Empty}
+use Rattle.vsd_trails.specs.Programs.{Fields, TrailStep, Asked, Program, done, bind, after_step, after_steps, Runs, EachStep}
 use Rattle.vsd_trails.specs.Words.{unpacked_cell, unpacked_bucket}
 use Rattle.vsd_trails.specs.RowTrails.{pinning, unpinning, claiming_row, claiming_from, claiming, filling, seeing_room, retiring, retiring_any, passing, sweeping_oldest, sweeping, unlinking, reading_cell, looking}
-use Rattle.vsd_trails.specs.CallTrails.{finding_in, finding, caching_in, caching, Stubbed, stub_miss, patching, stubbing, installing_in, installing, resolving_by, answering_by, answering, calling}
+use Rattle.vsd_trails.specs.CallTrails.{finding_in, finding, caching_in, caching, Stubbed, stub_hit, stub_miss, patching, stubbing, installing_in, installing, walking_by, walking, resolving_by, answering_by, answering, calling}
 use Rattle.vsd_trails.specs.Laws.{TwoRuns}
-use Rattle.vsd_trails.proofs.Runs.{splits, makes_only}
-use Rattle.vsd_trails.proofs.Asking.{Only, nothing, one, sees, and_then, either}
+use Rattle.vsd_trails.proofs.Runs.{splits, makes_only, after_steps-append}
+use Rattle.vsd_trails.proofs.Asking.{Only, nothing, one, sees, and_then, either, only_weaker}
 use Rattle.vsd_trails.proofs.Loads.{one_load, nothing_run, each_append}
 
 -- ---- steps that load neither a cell, nor a bucket, nor a handle word
@@ -33,6 +35,22 @@ IsOther act = Unit {0}
 
 abbrev pub Others : Asked → Type 0
 Others c = IsOther c.act
+
+abbrev pub IsNoCellLoad : Act → Type 0
+IsNoCellLoad (LoadCell site) = ⊥
+IsNoCellLoad act = Unit {0}
+
+abbrev pub NoCell : Asked → Type 0
+NoCell c = IsNoCellLoad c.act
+
+pub other_no_cell : (act : Act) → IsOther act → IsNoCellLoad act
+other_no_cell (LoadCell site) other = other
+other_no_cell (LoadBucket bucket) other = absurd other
+other_no_cell (LoadHandle row) other = absurd other
+other_no_cell act other = tt
+
+other_has_no_cell : (c : Asked) → Others c → NoCell c
+other_has_no_cell c other = other_no_cell c.act other
 
 pinning_others : (doing : Doing) → Only Others (pinning doing)
 unfolding pinning
@@ -113,10 +131,34 @@ module _ (k : Key) (site : ℕ) (h : Handle) where
   stubbing_others Resolve = nothing Others
   stubbing_others (Dispatch row) = and_then Others (one Others tt) (λ g. either Others _ (one Others tt) (and_then Others (patching_others row) (λ u. nothing Others)))
 
+  -- ---- after the load of the cell no cell is loaded
+
+  walking_by_no_cell : (cell : CellWord) (seen : Seen) (type : Result ℕ Unloaded) → Only NoCell (walking_by k site h cell seen type)
+  unfolding walking_by
+  walking_by_no_cell cell seen (Err u) = nothing NoCell
+  walking_by_no_cell cell seen (Ok number) =
+      and_then NoCell (only_weaker Others NoCell other_has_no_cell (caching_others k (site_token k site) h _)) (λ u. and_then NoCell (only_weaker Others NoCell other_has_no_cell (installing_others cell _)) (λ v. nothing NoCell))
+
+  walking_no_cell : (cell : CellWord) (seen : Seen) → Only NoCell (walking k site h cell seen)
+  unfolding walking
+  walking_no_cell cell seen = and_then NoCell (one NoCell tt) (walking_by_no_cell cell seen)
+
+  resolving_no_cell : (cell : CellWord) (expected : Option Handle) (found : Found) → Only NoCell (resolving_by k site h cell expected found)
+  unfolding resolving_by
+  resolving_no_cell cell expected (Hit target) = and_then NoCell (only_weaker Others NoCell other_has_no_cell (installing_others cell target)) (λ u. nothing NoCell)
+  resolving_no_cell cell expected (Other g t) = walking_no_cell cell _
+  resolving_no_cell cell expected Empty = walking_no_cell cell _
+
+  pub later_no_cell : (cell : CellWord) (stubbed : Stubbed) → Only NoCell (answering_by k site h cell stubbed)
+  unfolding answering_by finding
+  later_no_cell cell (stub_hit target) = nothing NoCell
+  later_no_cell cell (stub_miss expected) =
+      and_then NoCell (and_then NoCell (one NoCell tt) (λ named. only_weaker Others NoCell other_has_no_cell (finding_in_others (site_token k site) h named))) (resolving_no_cell cell expected)
+
   -- ---- the parts of a call
 
   -- pin, the load of the cell, the look at its row, what comes after, and the end
-  pub record CallParts (trail : List TrailStep) (answer : Result Answer Unloaded) : Type 0 where
+  pub record CallParts (f : Fields) (trail : List TrailStep) (answer : Result Answer Unloaded) : Type 0 where
     pub pins : List TrailStep
     pub cell : TrailStep
     pub looks : List TrailStep
@@ -132,6 +174,7 @@ module _ (k : Key) (site : ℕ) (h : Handle) where
     pub looks_others : EachStep Others looks
     pub later_run : Runs k at_later (answering_by k site h (unpacked_cell cell.step.found) stubbed) later answer
     pub ends_others : EachStep Others ends
+    pub later_fields : at_later ≡ after_steps k f (pins ++ cell ∷ looks)
 
   answering_parts : (f : Fields) (cell : CellWord) (trail : List TrailStep) (answer : Result Answer Unloaded) → Runs k f (answering k site h cell) trail answer
       → TwoRuns Stubbed (Result Answer Unloaded) k f (stubbing k site h cell) (answering_by k site h cell) trail answer
@@ -158,8 +201,9 @@ module _ (k : Key) (site : ℕ) (h : Handle) where
 
   -- from the answering on
   answers : (f : Fields) (cell : CellWord) (x : TrailStep) (xs : List TrailStep) (answer : Result Answer Unloaded)
-      → x.step.act ≡ LoadCell site → unpacked_cell x.step.found ≡ cell → Runs k f (bind (answering k site h cell) leaving) xs answer → CallParts (x ∷ xs) answer
-  answers f cell x xs answer is reads runs =
+      → x.step.act ≡ LoadCell site → unpacked_cell x.step.found ≡ cell → Runs k (after_step k f x) (bind (answering k site h cell) leaving) xs answer → CallParts f (x ∷ xs) answer
+  answers before cell x xs answer is reads runs =
+      let f = after_step k before x in
       let c = splits k f (answering k site h cell) leaving xs answer runs in
       let s = answering_parts f cell c.front c.answer c.first in
       let end = leaves (after_steps k f c.front) c.answer c.rest answer c.second in
@@ -180,17 +224,20 @@ module _ (k : Key) (site : ℕ) (h : Handle) where
         later_run = subst (λ (w : CellWord). Runs k (after_steps k f s.front) (answering_by k site h w s.answer) s.rest answer) (sym reads)
             (subst (Runs k (after_steps k f s.front) (answering_by k site h cell s.answer) s.rest) end.1 s.second);
         ends_others = end.0;
+        later_fields = refl;
       }
 
   -- from the load of the cell on
-  loads_cell : (f : Fields) (xs : List TrailStep) (answer : Result Answer Unloaded) → Runs k f (bind (reading_cell site) (λ cell. bind (answering k site h cell) leaving)) xs answer → CallParts xs answer
+  loads_cell : (f : Fields) (xs : List TrailStep) (answer : Result Answer Unloaded) → Runs k f (bind (reading_cell site) (λ cell. bind (answering k site h cell) leaving)) xs answer → CallParts f xs answer
   loads_cell f xs answer runs =
       let b = splits k f (reading_cell site) (λ cell. bind (answering k site h cell) leaving) xs answer runs in
       let cell = one_load k f (LoadCell site) None unpacked_cell b.front b.answer tt b.first in
       let same : xs ≡ cell.step ∷ b.rest = b.whole ∙ ap (λ (l : List TrailStep). l ++ b.rest) cell.is in
-      subst (λ (l : List TrailStep). CallParts l answer) (sym same) (answers (after_steps k f b.front) b.answer cell.step b.rest answer cell.act_is cell.answer b.second)
+      let after : Runs k (after_step k f cell.step) (bind (answering k site h b.answer) leaving) b.rest answer =
+          subst (λ (l : List TrailStep). Runs k (after_steps k f l) (bind (answering k site h b.answer) leaving) b.rest answer) cell.is b.second in
+      subst (λ (l : List TrailStep). CallParts f l answer) (sym same) (answers f b.answer cell.step b.rest answer cell.act_is cell.answer after)
 
-  pub call_parts : (f : Fields) (trail : List TrailStep) (answer : Result Answer Unloaded) → Runs k f (calling k site h) trail answer → CallParts trail answer
+  pub call_parts : (f : Fields) (trail : List TrailStep) (answer : Result Answer Unloaded) → Runs k f (calling k site h) trail answer → CallParts f trail answer
   unfolding calling leaving
   call_parts f trail answer runs =
       let a = splits k f (pinning (Call site h)) _ trail answer runs in
@@ -211,6 +258,7 @@ module _ (k : Key) (site : ℕ) (h : Handle) where
         looks_others = p.looks_others;
         later_run = p.later_run;
         ends_others = p.ends_others;
+        later_fields = p.later_fields ∙ (sym (after_steps-append k f a.front (p.pins ++ p.cell ∷ p.looks)) ∙ ap (after_steps k f) (sym (append_assoc a.front p.pins (p.cell ∷ p.looks))));
       }
 
   -- a look at the bucket, and what comes after it

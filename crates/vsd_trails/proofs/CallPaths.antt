@@ -20,26 +20,17 @@ use Rattle.vsd_trails.specs.Programs.{Fields, TrailStep, Asked, asked_act, asked
 use Rattle.vsd_trails.specs.Words.{unpacked_cell, unpacked_handle_word, is_live_at}
 use Rattle.vsd_trails.specs.CallTrails.{Stubbed, stub_hit, stub_miss, stubbing, seen_by, by_stub, resolving_by, answering_by, calling}
 use Rattle.vsd_trails.specs.CallPaths.{load_of, InTurn, cell_loads, bucket_loads, HeldByCell, HeldByBucket, HoldsPair, CellShown, BucketShown, IsSeen, IsNoHandleLoad, LoadsNoHandle, AnswerTells}
+use Rattle.vsd_trails.proofs.Runs.{makes_only}
 use Rattle.vsd_trails.proofs.Words.{cell_read}
 use Rattle.vsd_trails.proofs.Loads.{nothing_run, each_append, each_weaker, only_there}
-use Rattle.vsd_trails.proofs.CallParts.{IsOther, Others, CallParts, BucketParts, call_parts, bucket_parts}
+use Rattle.vsd_trails.proofs.CallParts.{IsOther, Others, IsNoCellLoad, NoCell, other_no_cell, later_no_cell, CallParts, BucketParts, call_parts, bucket_parts}
 use Rattle.vsd_trails.proofs.CallShapes.{NoRowShape, OtherShape, hit_shape, miss_shape, EntryHit, EntryOther, EntryEmpty, EntryShape, entry_shape, Walk, hit_goes, other_walks, empty_walks}
 
 -- ---- kinds of loads
 
-abbrev IsNoCellLoad : Act → Type 0
-IsNoCellLoad (LoadCell site) = ⊥
-IsNoCellLoad act = Unit {0}
-
 abbrev IsNoBucketLoad : Act → Type 0
 IsNoBucketLoad (LoadBucket bucket) = ⊥
 IsNoBucketLoad act = Unit {0}
-
-other_no_cell : (act : Act) → IsOther act → IsNoCellLoad act
-other_no_cell (LoadCell site) other = other
-other_no_cell (LoadBucket bucket) other = absurd other
-other_no_cell (LoadHandle row) other = absurd other
-other_no_cell act other = tt
 
 other_no_bucket : (act : Act) → IsOther act → IsNoBucketLoad act
 other_no_bucket (LoadCell site) other = absurd other
@@ -61,6 +52,16 @@ act_has : (P : Act → Type 0) (x : TrailStep) (act : Act) → x.step.act ≡ ac
 act_has P x act is has = subst (λ (a : Act). P (asked_act a)) is has
 
 -- ---- lists of so many loads
+
+pub record OneLoaded (xs : List TrailStep) (c : Act × ℕ) : Type 0 where
+  pub u : TrailStep
+  pub whole : xs ≡ u ∷ []
+  pub first : load_of u ≡ c
+
+one_loaded : (xs : List TrailStep) (c : Act × ℕ) → map load_of xs ≡ c ∷ [] → OneLoaded xs c
+one_loaded [] c same = absurd (cc)
+one_loaded (x ∷ []) c same = record { u = x; whole = refl; first = cc }
+one_loaded (x ∷ y ∷ ys) c same = absurd (cc)
 
 pub record Two (xs : List TrailStep) (c d : Act × ℕ) : Type 0 where
   pub u : TrailStep
@@ -111,13 +112,32 @@ entry_clash token h named entries Empty no_hit s row names v w more after place 
 
 -- ---- the parts of a call
 
-module _ (k : Key) (site : ℕ) (h : Handle) (trail : List TrailStep) (answer : Result Answer Unloaded) (p : CallParts k site h trail answer) where
+module _ (k : Key) (site : ℕ) (h : Handle) (f : Fields) (trail : List TrailStep) (answer : Result Answer Unloaded) (p : CallParts k site h f trail answer) where
   -- each step after the load of the cell, and each but it, has what others have and what the later ones have
   after_cell : (P : Act → Type 0) → ((act : Act) → IsOther act → P act) → EachStep (λ c. P c.act) p.later → EachStep (λ c. P c.act) (p.looks ++ (p.later ++ p.ends))
   after_cell P weaker later =
       let Q : Asked → Type 0 = λ c. P c.act in
       let weak = λ (xs : List TrailStep). each_weaker Others Q (λ c. weaker c.act) xs in
       each_append Q p.looks (p.later ++ p.ends) (weak p.looks p.looks_others) (each_append Q p.later p.ends later (weak p.ends p.ends_others))
+
+  -- a load of the cell is the one that the call makes
+  cell_there : (before : List TrailStep) (x : TrailStep) (after : List TrailStep) → x.step.act ≡ LoadCell site → p.pins ++ p.cell ∷ (p.looks ++ (p.later ++ p.ends)) ≡ before ++ x ∷ after
+      → (p.cell ≡ x) × (p.looks ++ (p.later ++ p.ends) ≡ after)
+  cell_there before x after is place =
+      let cell = unpacked_cell p.cell.step.found in
+      let later = makes_only NoCell k p.at_later (answering_by k site h cell p.stubbed) p.later answer (later_no_cell k site h cell p.stubbed).only p.later_run in
+      only_there NoCell p.pins p.cell (p.looks ++ (p.later ++ p.ends)) before x after
+      (each_weaker Others NoCell (λ c. other_no_cell c.act) p.pins p.pins_others) (after_cell IsNoCellLoad other_no_cell later) (act_has IsNoCellLoad x (LoadCell site) is) place
+
+  pub cell_found : (word : ℕ) → InTurn trail ((LoadCell site, word) ∷ []) → p.cell.step.found ≡ word
+  cell_found word load =
+      let one = one_loaded load.there (LoadCell site, word) load.same in
+      let is : one.u.step.act ≡ LoadCell site = let e = one.first in λ c. (e c).0 in
+      let found : one.u.step.found ≡ word = let e = one.first in λ c. (e c).1 in
+      let place : p.pins ++ p.cell ∷ (p.looks ++ (p.later ++ p.ends)) ≡ load.before ++ one.u ∷ load.after =
+          sym p.whole ∙ (load.whole ∙ ap (λ (l : List TrailStep). load.before ++ (l ++ load.after)) one.whole) in
+      let there = cell_there load.before one.u load.after is place in
+      ap (λ (x : TrailStep). x.step.found) there.0 ∙ found
 
   -- ---- by the cell
 
@@ -143,18 +163,15 @@ module _ (k : Key) (site : ℕ) (h : Handle) (trail : List TrailStep) (answer : 
       )
 
   -- the cell's row does not hold the pair
-  cell_unheld : (expected : Option Handle) → p.stubbed ≡ stub_miss expected → EachStep (λ c. IsNoCellLoad c.act) p.later → HeldByCell site h trail → ⊥
-  cell_unheld expected is later held =
-      let Q : Asked → Type 0 = λ c. IsNoCellLoad c.act in
+  cell_unheld : (expected : Option Handle) → p.stubbed ≡ stub_miss expected → HeldByCell site h trail → ⊥
+  cell_unheld expected is held =
       let two = two_loads held.loads.there (LoadCell site, 2 + held.row) (LoadRow held.row word.Handle, held.packed) held.loads.same in
       let first_is : two.u.step.act ≡ LoadCell site = let e = two.first in λ c. (e c).0 in
       let first_found : two.u.step.found ≡ 2 + held.row = let e = two.first in λ c. (e c).1 in
       let second_found : two.v.step.found ≡ held.packed = let e = two.second in λ c. (e c).1 in
       let place : p.pins ++ p.cell ∷ (p.looks ++ (p.later ++ p.ends)) ≡ held.loads.before ++ two.u ∷ two.v ∷ held.loads.after =
       sym p.whole ∙ (held.loads.whole ∙ ap (λ (l : List TrailStep). held.loads.before ++ (l ++ held.loads.after)) two.whole) in
-      let there = only_there Q p.pins p.cell (p.looks ++ (p.later ++ p.ends)) held.loads.before two.u (two.v ∷ held.loads.after)
-      (each_weaker Others Q (λ c. other_no_cell c.act) p.pins p.pins_others) (after_cell IsNoCellLoad other_no_cell later)
-      (act_has IsNoCellLoad two.u (LoadCell site) first_is) place in
+      let there = cell_there held.loads.before two.u (two.v ∷ held.loads.after) first_is place in
       let names : p.cell.step.found ≡ 2 + held.row = ap (λ (x : TrailStep). x.step.found) there.0 ∙ first_found in
       ⊎_elim
       (λ (s : NoRowShape k site h p.cell.step.found p.looks expected). ⊎_elim (λ zero_. absurd (omega arith)) (λ one_. absurd (omega arith)) s.plain)
@@ -216,15 +233,6 @@ module _ (k : Key) (site : ℕ) (h : Handle) (trail : List TrailStep) (answer : 
         let weak = λ (xs : List TrailStep). each_weaker Others Q (λ c. weaker c.act) xs in
         each_append Q b.entries (b.rest ++ p.ends) (weak b.entries b.entries_others) (each_append Q b.rest p.ends rest (weak p.ends p.ends_others))
 
-    later_has : (P : Act → Type 0) → ((act : Act) → IsOther act → P act) → P (LoadBucket bucket) → EachStep (λ c. P c.act) b.rest → EachStep (λ c. P c.act) p.later
-    unfolding bucket
-    later_has P weaker of_bucket rest =
-        let Q : Asked → Type 0 = λ c. P c.act in
-        subst (EachStep Q) (sym b.whole) (
-          step_has P b.named (LoadBucket (bucket_of (site_token k site) h k.sizes.buckets)) b.named_is of_bucket,
-          each_append Q b.entries b.rest (each_weaker Others Q (λ c. weaker c.act) b.entries b.entries_others) rest,
-        )
-
     front_has : (P : Act → Type 0) → ((act : Act) → IsOther act → P act) → P (LoadCell site) → EachStep (λ c. P c.act) front
     unfolding front
     front_has P weaker of_cell =
@@ -249,11 +257,10 @@ module _ (k : Key) (site : ℕ) (h : Handle) (trail : List TrailStep) (answer : 
         let all : EachStep LoadsNoHandle (front ++ b.named ∷ (b.entries ++ (b.rest ++ p.ends))) =
         each_append LoadsNoHandle front (b.named ∷ (b.entries ++ (b.rest ++ p.ends))) (front_has IsNoHandleLoad other_no_handle tt)
         (step_has IsNoHandleLoad b.named (LoadBucket (bucket_of token h k.sizes.buckets)) b.named_is tt, after_bucket IsNoHandleLoad other_no_handle (each_weaker Others LoadsNoHandle (λ c. other_no_handle c.act) b.rest goes.others)) in
-        let rest : EachStep (λ c. IsNoCellLoad c.act) b.rest = each_weaker Others (λ c. IsNoCellLoad c.act) (λ c. other_no_cell c.act) b.rest goes.others in
         subst (AnswerTells k site h trail) (sym goes.is) (
           record { row = s.row; packed = s.handle.step.found; handle = s.same; loads = loads },
           subst (EachStep LoadsNoHandle) (sym at_bucket) all,
-          cell_unheld expected is (later_has IsNoCellLoad other_no_cell tt rest),
+          cell_unheld expected is,
         )
 
     -- the bucket's row does not hold the pair
@@ -311,7 +318,7 @@ module _ (k : Key) (site : ℕ) (h : Handle) (trail : List TrailStep) (answer : 
         let Q : Asked → Type 0 = λ c. P c.act in
         subst (EachStep Q) (sym w.whole) (step_has P w.load (LoadHandle h.row) w.load_is of_load, each_weaker Others Q (λ c. weaker c.act) w.more w.others) in
         let unheld : HoldsPair k site h trail → ⊥ = ⊎_elim
-        (cell_unheld expected is (later_has IsNoCellLoad other_no_cell tt (load_has IsNoCellLoad other_no_cell tt)))
+        (cell_unheld expected is)
         (bucket_unheld (load_has IsNoBucketLoad other_no_bucket tt) no_hit) in
         ⊎_elim
         (λ walked. subst (AnswerTells k site h trail) (sym walked.2) (shown, unheld))
@@ -358,4 +365,4 @@ module _ (k : Key) (site : ℕ) (h : Handle) (trail : List TrailStep) (answer : 
       miss_tells expected is b b.found refl
 
 pub answer_tells : (k : Key) (site : ℕ) (h : Handle) (f : Fields) (trail : List TrailStep) (answer : Result Answer Unloaded) → Runs k f (calling k site h) trail answer → AnswerTells k site h trail answer
-answer_tells k site h f trail answer runs = let p = call_parts k site h f trail answer runs in parts_tell k site h trail answer p p.stubbed refl
+answer_tells k site h f trail answer runs = let p = call_parts k site h f trail answer runs in parts_tell k site h f trail answer p p.stubbed refl

@@ -10,7 +10,7 @@ use Rattle.vsd_trails.specs.Words.{same_handle}
 
 -- ---- the act of a step that was asked for
 
-abbrev IsNoUnbind : Act → Type 0
+abbrev pub IsNoUnbind : Act → Type 0
 IsNoUnbind (Unbind row generation number) = ⊥
 IsNoUnbind act = Unit {0}
 

@@ -8,3 +8,4 @@ pub mod UnloadTrails
 pub mod Operations
 pub mod Logs
 pub mod CallPaths
+pub mod Attempts

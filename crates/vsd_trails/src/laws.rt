@@ -112,3 +112,8 @@ pub fn answer_tells()
     ensures unloaded { (k : Key) (site : ℕ) (h : Handle) (f : Fields) (trail : List TrailStep) (u : Unloaded) →
         Runs k f (calling k site h) trail (Err u) → ShowsUnloaded h trail u × (HoldsPair k site h trail → ⊥) }
 {}
+
+/// x
+pub fn temporary()
+    ensures { (g h : Handle) → g ≡ h → g ≡ h }
+{}
