@@ -4,6 +4,7 @@
 mod answers;
 mod casting;
 pub mod laws;
+pub mod operations;
 
 pub use answers::{Answer, CastAnswer, Found, Path, Seen, Swept, Unloaded};
 pub use casting::{Find, Lost, Miss, Put};

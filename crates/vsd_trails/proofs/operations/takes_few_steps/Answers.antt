@@ -6,7 +6,7 @@ use Rattle.vsd_trails.specs.UnloadTrails.{binding, unloading}
 use Rattle.vsd_trails.proofs.Runs.{is_bounded}
 use Rattle.vsd_trails.proofs.Bounds.{at_sweeping}
 use Rattle.vsd_trails.proofs.CallBounds.{at_calling, at_casting, at_binding, at_unloading}
-use Rattle.vsd_trails.proofs.laws.takes_few_steps.Goals as goal
+use Rattle.vsd_trails.proofs.operations.takes_few_steps.Goals as goal
 
 pub returns-clause-call : goal.returns-clause-call
 returns-clause-call c k site h f trail answer = is_bounded (52 + k.sizes.callers) k f (calling k site h) trail answer (at_calling k site h).few

@@ -1,5 +1,5 @@
 use Rattle.vsd_trails.proofs.Entries.{adds_call, adds_cast, adds_load, adds_unload}
-use Rattle.vsd_trails.proofs.laws.adds_one_entry.Goals as goal
+use Rattle.vsd_trails.proofs.operations.adds_one_entry.Goals as goal
 
 pub returns-clause-call : goal.returns-clause-call
 returns-clause-call c = adds_call

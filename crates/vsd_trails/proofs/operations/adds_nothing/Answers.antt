@@ -1,5 +1,5 @@
 use Rattle.vsd_trails.proofs.Entries.{pin_adds_nothing, unpin_adds_nothing, learn_adds_nothing, sweep_adds_nothing}
-use Rattle.vsd_trails.proofs.laws.adds_nothing.Goals as goal
+use Rattle.vsd_trails.proofs.operations.adds_nothing.Goals as goal
 
 pub returns-clause-pin : goal.returns-clause-pin
 returns-clause-pin c = pin_adds_nothing

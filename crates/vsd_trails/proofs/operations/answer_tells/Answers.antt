@@ -1,6 +1,6 @@
 use Rattle.std.proofs.Common.{Ok, Err}
 use Rattle.vsd_trails.proofs.CallPaths.{answer_tells}
-use Rattle.vsd_trails.proofs.laws.answer_tells.Goals as goal
+use Rattle.vsd_trails.proofs.operations.answer_tells.Goals as goal
 
 pub returns-clause-path : goal.returns-clause-path
 returns-clause-path c k site h f trail a runs = answer_tells k site h f trail (Ok a) runs
