@@ -1,37 +1,30 @@
 -- What a call and an unload try.
-use Rattle.std.proofs.Common.{◌≡◌, ◌≢◌, ◌⊎◌, inl, inr, ℕ, zero, suc, ◌+◌, ◌<◌, ◌≤◌, Bool, true, false, ◌&&◌, nat_eq, List, [], ◌∷◌, ◌++◌, append_assoc, append-nil, Option, Some, None, Result, Ok, Err, refl, sym, ◌∙◌, ap, subst, ⊎_elim, arith}
-use Rattle.std.proofs.lemmas.Bool.{cases_lt}
+use Rattle.std.proofs.Common.{◌≡◌, ◌⊎◌, inl, inr, ℕ, false, nat_eq, List, [], ◌∷◌, ◌++◌, append_assoc, append-nil, Option, Some, None, Result, Ok, Err, refl, sym, ◌∙◌, ap, subst, ⊎_elim}
 use Rattle.vsd_words.specs.declared.handle.Handle.{Handle}
 use Rattle.vsd_words.specs.declared.cell_word.CellWord.{CellWord}
-use Rattle.vsd_words.specs.declared.cell_word.CellWord.TheVariants.{Lookup, Resolve, Dispatch}
+use Rattle.vsd_words.specs.declared.cell_word.CellWord.TheVariants.{Lookup}
 use Rattle.vsd_words.specs.Hash.{bucket_of}
 use Rattle.vsd_rule.specs.declared.key.Key.{Key}
-use Rattle.vsd_rule.specs.declared.row_view.RetiredRow.{RetiredRow}
 use Rattle.vsd_rule.specs.declared.step.Act.{Act}
-use Rattle.vsd_rule.specs.declared.step.Act.TheVariants.{Unpin, SetHandle, SetToken, SetTarget, LoadRow, LoadCell, ToDispatch, ToLookup, LoadBucket, PutBucket, EmptyBucket, EpochOf, FreeSwept}
-use Rattle.vsd_rule.specs.declared.step.RowWord.TheVariants as word
-use Rattle.vsd_rule.specs.declared.step.Doing.TheVariants.{Call, Unload}
+use Rattle.vsd_rule.specs.declared.step.Act.TheVariants.{SetHandle, SetToken, SetTarget, LoadCell, ToDispatch, PutBucket}
 use Rattle.vsd_rule.specs.Lists.{site_token, target_of}
-use Rattle.vsd_rule.specs.RowSteps.{unpacked_handle, is_clear}
 use Rattle.vsd_trails.specs.declared.answers.Answer.{Answer}
 use Rattle.vsd_trails.specs.declared.answers.Path.TheVariants.{Stub, Bucket, Walked}
 use Rattle.vsd_trails.specs.declared.answers.Seen.{Seen}
 use Rattle.vsd_trails.specs.declared.answers.Unloaded.{Unloaded}
-use Rattle.vsd_trails.specs.declared.answers.Swept.{Swept}
 use Rattle.vsd_trails.specs.declared.answers.Found.{Found}
 use Rattle.vsd_trails.specs.declared.answers.Found.TheVariants.{Hit, Other, Empty}
 use Rattle.vsd_trails.specs.Programs.{Fields, TrailStep, Program, done, bind, when◌then◌else◌, after_act, after_step, after_steps, Runs}
 use Rattle.vsd_trails.specs.Laws.{TwoRuns}
-use Rattle.vsd_trails.specs.Words.{unpacked_cell, unpacked_bucket, same_handle}
-use Rattle.vsd_trails.specs.RowTrails.{reading, loading, making, pinning, unpinning, filling, claiming, has_room, passing, sweeping_oldest, sweeping, reading_cell, reading_handle, looking, emptying, retiring_any, unlinking, typing, abandoning}
-use Rattle.vsd_trails.specs.CallTrails.{putting, caching_in, caching, Stubbed, stub_hit, stub_miss, finding, stubbing, installing_in, installing, by_stub, by_bucket, by_walk, seen_by, walking_by, walking, resolving_by, answering_by, answering, calling}
-use Rattle.vsd_trails.specs.UnloadTrails.{unbinding, purging_cell, purging_bucket, purging_cells, purging_buckets, unloading}
-use Rattle.vsd_trails.specs.Attempts.{Part, Publishes, TriesRow, TriesBucket, TriesCell, EndsSweep, SweepsAtEnd, RowPurged, CellPurged, BucketPurged, PurgesCell, PurgesBucket}
+use Rattle.vsd_trails.specs.Words.{unpacked_cell, unpacked_bucket}
+use Rattle.vsd_trails.specs.RowTrails.{reading, making, filling, claiming, has_room, retiring_any, typing, abandoning}
+use Rattle.vsd_trails.specs.CallTrails.{caching_in, caching, Stubbed, stub_hit, stub_miss, finding, stubbing, installing_in, installing, by_stub, by_bucket, by_walk, seen_by, walking_by, walking, resolving_by, answering_by, calling}
+use Rattle.vsd_trails.specs.Attempts.{Part, TriesRow, TriesBucket, TriesCell}
 use Rattle.vsd_trails.specs.CallPaths.{InTurn}
 use Rattle.vsd_trails.proofs.CallParts.{CallParts, call_parts}
 use Rattle.vsd_trails.proofs.CallPaths.{cell_found}
 use Rattle.vsd_trails.proofs.Runs.{splits, after_steps-append}
-use Rattle.vsd_trails.proofs.Loads.{OneLoad, IsNoUnbind, one_load, nothing_run, branch, same_handle-false}
+use Rattle.vsd_trails.proofs.Loads.{IsNoUnbind, one_load, nothing_run, branch}
 
 -- ---- parts of parts
 
@@ -108,7 +101,7 @@ module _ (k : Key) (h : Handle) (token target : ℕ) where
       let d = splits k f2 (reading act read) g fill.rest b fill.second in
       let last = one_load k f2 act None read d.front d.answer plain d.first in
       let stores : fill.front ≡ handle.step ∷ its_token.step ∷ its_target.step ∷ [] =
-          a.whole ∙ (ap (λ (l : List TrailStep). l ++ a.rest) handle.is ∙ ap (λ (l : List TrailStep). handle.step ∷ l) (c.whole ∙ (ap (λ (l : List TrailStep). l ++ c.rest) its_token.is ∙ ap (λ (l : List TrailStep). its_token.step ∷ l) its_target.is))) in
+      a.whole ∙ (ap (λ (l : List TrailStep). l ++ a.rest) handle.is ∙ ap (λ (l : List TrailStep). handle.step ∷ l) (c.whole ∙ (ap (λ (l : List TrailStep). l ++ c.rest) its_token.is ∙ ap (λ (l : List TrailStep). its_token.step ∷ l) its_target.is))) in
       record {
         handle = handle.step;
         its_token = its_token.step;
@@ -159,8 +152,8 @@ module _ (k : Key) (h : Handle) (token target : ℕ) where
   caching_tries f xs u runs =
       ⊎_elim
       (λ room. inr (tries f (PutBucket (bucket_of token h k.sizes.buckets)) (caching_in k token h target) xs u
-          (λ f' ys r. (nothing_run k f' ys tt u r).0)
-          (λ f' row ys r. fills f' row (PutBucket (bucket_of token h k.sizes.buckets) row) unpacked_bucket retiring_any ys u tt r) room.1))
+      (λ f' ys r. (nothing_run k f' ys tt u r).0)
+      (λ f' row ys r. fills f' row (PutBucket (bucket_of token h k.sizes.buckets) row) unpacked_bucket retiring_any ys u tt r) room.1))
       (λ full. inl full.0)
       (branch k f (has_room f.limbo) _ _ xs u runs)
 
@@ -209,15 +202,15 @@ module _ (k : Key) (site : ℕ) (h : Handle) where
       let e = nothing_run k (after_steps k g b.front) b.rest (by_walk target seen) answer b.second in
       let is_walk : answer ≡ by_walk target seen = sym e.1 in
       let cached : TriesBucket k site h target f xs = subst (TriesBucket k site h target f) (sym a.whole)
-          (bucket_first target f a.front a.rest (record { at = f; there = a.front; part = all_of_it k f a.front; tries = caching_tries k h token target f a.front a.answer a.first })) in
+      (bucket_first target f a.front a.rest (record { at = f; there = a.front; part = all_of_it k f a.front; tries = caching_tries k h token target f a.front a.answer a.first })) in
       let installed : cell ≡ Lookup → TriesCell k site h target f xs = λ looked. subst (TriesCell k site h target f) (sym a.whole)
-          (cell_second target f a.front a.rest (subst (TriesCell k site h target g) (sym b.whole)
-          (cell_first target g b.front b.rest (record {
-            at = g;
-            there = b.front;
-            part = all_of_it k g b.front;
-            tries = installing_tries target g b.front b.answer (subst (λ (w : CellWord). Runs k g (installing k site h w target) b.front b.answer) looked b.first);
-          })))) in (
+      (cell_second target f a.front a.rest (subst (TriesCell k site h target g) (sym b.whole)
+      (cell_first target g b.front b.rest (record {
+        at = g;
+        there = b.front;
+        part = all_of_it k g b.front;
+        tries = installing_tries target g b.front b.answer (subst (λ (w : CellWord). Runs k g (installing k site h w target) b.front b.answer) looked b.first);
+      })))) in (
         λ other seen' is. subst (λ (t : ℕ). TriesBucket k site h t f xs) (target_same _ _ answer is_walk is) cached,
         λ x looked is. subst (λ (t : ℕ). TriesCell k site h t f xs) (target_same _ x answer is_walk is) (installed looked),
       )
@@ -240,11 +233,11 @@ module _ (k : Key) (site : ℕ) (h : Handle) where
       let is_hit : answer ≡ by_bucket target = sym e.1 in (
         λ other seen is. absurd (no_walk (record { target = target; path = Bucket }) seen refl (path_same _ _ answer is_hit is)),
         λ x looked is. subst (λ (t : ℕ). TriesCell k site h t f xs) (target_same _ x answer is_hit is) (subst (TriesCell k site h target f) (sym a.whole) (cell_first target f a.front a.rest (record {
-              at = f;
-              there = a.front;
-              part = all_of_it k f a.front;
-              tries = installing_tries target f a.front a.answer (subst (λ (w : CellWord). Runs k f (installing k site h w target) a.front a.answer) looked a.first);
-            }))),
+          at = f;
+          there = a.front;
+          part = all_of_it k f a.front;
+          tries = installing_tries target f a.front a.answer (subst (λ (w : CellWord). Runs k f (installing k site h w target) a.front a.answer) looked a.first);
+        }))),
       )
   resolving_tries f cell expected (Other g t) xs answer runs = walking_tries f cell (seen_by cell expected (Other g t)) xs answer runs
   resolving_tries f cell expected Empty xs answer runs = walking_tries f cell (seen_by cell expected Empty) xs answer runs

@@ -234,7 +234,7 @@ module _ (k : Key) (site : ℕ) (h : Handle) where
       let cell = one_load k f (LoadCell site) None unpacked_cell b.front b.answer tt b.first in
       let same : xs ≡ cell.step ∷ b.rest = b.whole ∙ ap (λ (l : List TrailStep). l ++ b.rest) cell.is in
       let after : Runs k (after_step k f cell.step) (bind (answering k site h b.answer) leaving) b.rest answer =
-          subst (λ (l : List TrailStep). Runs k (after_steps k f l) (bind (answering k site h b.answer) leaving) b.rest answer) cell.is b.second in
+      subst (λ (l : List TrailStep). Runs k (after_steps k f l) (bind (answering k site h b.answer) leaving) b.rest answer) cell.is b.second in
       subst (λ (l : List TrailStep). CallParts f l answer) (sym same) (answers f b.answer cell.step b.rest answer cell.act_is cell.answer after)
 
   pub call_parts : (f : Fields) (trail : List TrailStep) (answer : Result Answer Unloaded) → Runs k f (calling k site h) trail answer → CallParts f trail answer

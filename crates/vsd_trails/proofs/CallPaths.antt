@@ -135,7 +135,7 @@ module _ (k : Key) (site : ℕ) (h : Handle) (f : Fields) (trail : List TrailSte
       let is : one.u.step.act ≡ LoadCell site = let e = one.first in λ c. (e c).0 in
       let found : one.u.step.found ≡ word = let e = one.first in λ c. (e c).1 in
       let place : p.pins ++ p.cell ∷ (p.looks ++ (p.later ++ p.ends)) ≡ load.before ++ one.u ∷ load.after =
-          sym p.whole ∙ (load.whole ∙ ap (λ (l : List TrailStep). load.before ++ (l ++ load.after)) one.whole) in
+      sym p.whole ∙ (load.whole ∙ ap (λ (l : List TrailStep). load.before ++ (l ++ load.after)) one.whole) in
       let there = cell_there load.before one.u load.after is place in
       ap (λ (x : TrailStep). x.step.found) there.0 ∙ found
 

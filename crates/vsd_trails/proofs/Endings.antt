@@ -1,5 +1,5 @@
 -- How a call and an unload end: by the sweep of the oldest row in limbo.
-use Rattle.std.proofs.Common.{◌≡◌, ◌⊎◌, inl, inr, ℕ, zero, suc, ◌+◌, false, List, [], ◌∷◌, ◌++◌, append_assoc, append-nil, Result, refl, sym, ◌∙◌, ap, subst, ⊎_elim}
+use Rattle.std.proofs.Common.{◌≡◌, inl, inr, ℕ, zero, suc, ◌+◌, List, [], ◌∷◌, ◌++◌, append_assoc, append-nil, Result, refl, sym, ◌∙◌, ap, subst, ⊎_elim}
 use Rattle.vsd_words.specs.declared.handle.Handle.{Handle}
 use Rattle.vsd_rule.specs.declared.key.Key.{Key}
 use Rattle.vsd_rule.specs.declared.row_view.RetiredRow.{RetiredRow}
@@ -10,7 +10,7 @@ use Rattle.vsd_rule.specs.RowSteps.{is_clear}
 use Rattle.vsd_trails.specs.declared.answers.Answer.{Answer}
 use Rattle.vsd_trails.specs.declared.answers.Unloaded.{Unloaded}
 use Rattle.vsd_trails.specs.declared.answers.Swept.{Swept}
-use Rattle.vsd_trails.specs.Programs.{Fields, TrailStep, Program, done, bind, after_act, after_step, after_steps, Runs}
+use Rattle.vsd_trails.specs.Programs.{Fields, TrailStep, done, bind, after_act, after_step, after_steps, Runs}
 use Rattle.vsd_trails.specs.RowTrails.{loading, making, pinning, unpinning, passing, sweeping_oldest, sweeping, reading_cell}
 use Rattle.vsd_trails.specs.CallTrails.{answering, calling}
 use Rattle.vsd_trails.specs.UnloadTrails.{unbinding, purging_cells, purging_buckets, unloading}
@@ -43,16 +43,16 @@ module _ (k : Key) where
       let g = after_steps k f a.front in
       ⊎_elim
       (λ clear.
-          let t = passing_ends x n (caller + 1) g a.rest s clear.1 in
-          record { front = a.front ++ t.front; last = t.last; whole = a.whole ∙ (ap (λ (l : List TrailStep). a.front ++ l) t.whole ∙ sym (append_assoc a.front t.front (t.last ∷ []))); ends = t.ends })
+      let t = passing_ends x n (caller + 1) g a.rest s clear.1 in
+      record { front = a.front ++ t.front; last = t.last; whole = a.whole ∙ (ap (λ (l : List TrailStep). a.front ++ l) t.whole ∙ sym (append_assoc a.front t.front (t.last ∷ []))); ends = t.ends })
       (λ blocked.
-          let e = nothing_run k g a.rest _ s blocked.1 in
-          record {
-            front = [];
-            last = load.step;
-            whole = a.whole ∙ (ap (λ (l : List TrailStep). a.front ++ l) e.0 ∙ (append-nil a.front ∙ load.is));
-            ends = inr (caller, load.act_is, ap (is_clear x.epoch) load.answer ∙ blocked.0);
-          })
+      let e = nothing_run k g a.rest _ s blocked.1 in
+      record {
+        front = [];
+        last = load.step;
+        whole = a.whole ∙ (ap (λ (l : List TrailStep). a.front ++ l) e.0 ∙ (append-nil a.front ∙ load.is));
+        ends = inr (caller, load.act_is, ap (is_clear x.epoch) load.answer ∙ blocked.0);
+      })
       (branch k g (is_clear x.epoch a.answer) _ _ a.rest s a.second)
 
   sweeping_ends : (f : Fields) (xs : List TrailStep) (s : Swept) → Runs k f (sweeping k) xs s → (x : RetiredRow) (others : List RetiredRow) → f.limbo ≡ x ∷ others → Last x xs

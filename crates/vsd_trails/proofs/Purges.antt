@@ -10,9 +10,9 @@ use Rattle.vsd_rule.specs.declared.step.Act.TheVariants.{LoadRow, LoadCell, Load
 use Rattle.vsd_rule.specs.declared.step.RowWord.TheVariants as word
 use Rattle.vsd_rule.specs.declared.step.Doing.TheVariants.{Unload}
 use Rattle.vsd_rule.specs.RowSteps.{unpacked_handle}
-use Rattle.vsd_trails.specs.Programs.{Fields, TrailStep, Program, done, bind, when◌then◌else◌, after_step, after_steps, Runs}
+use Rattle.vsd_trails.specs.Programs.{Fields, TrailStep, Program, bind, when◌then◌else◌, after_steps, Runs}
 use Rattle.vsd_trails.specs.Words.{unpacked_cell, unpacked_bucket, same_handle}
-use Rattle.vsd_trails.specs.RowTrails.{reading, pinning, unpinning, has_room, seeing_room, retiring, retiring_any, unlinking, reading_cell, reading_handle, looking, emptying}
+use Rattle.vsd_trails.specs.RowTrails.{reading, pinning, has_room, seeing_room, unlinking, reading_cell, reading_handle, looking}
 use Rattle.vsd_trails.specs.UnloadTrails.{unbinding, purging_cell, purging_bucket, purging_cells, purging_buckets, unloading}
 use Rattle.vsd_trails.specs.Attempts.{RowPurged, CellPurged, BucketPurged, PurgesCell, PurgesBucket}
 use Rattle.vsd_trails.proofs.Runs.{splits, after_steps-append}
@@ -92,9 +92,9 @@ module _ (k : Key) (h : Handle) where
   taken_out f x out read g otherwise xs b plain runs =
       ⊎_elim
       (λ both.
-          let a = splits k f (reading out read) g xs b both.1 in
-          let exchange = one_load k f out _ read a.front a.answer plain a.first in
-          inr (inr (exchange.step, a.rest, a.whole ∙ ap (λ (l : List TrailStep). l ++ a.rest) exchange.is, exchange.act_is)))
+      let a = splits k f (reading out read) g xs b both.1 in
+      let exchange = one_load k f out _ read a.front a.answer plain a.first in
+      inr (inr (exchange.step, a.rest, a.whole ∙ ap (λ (l : List TrailStep). l ++ a.rest) exchange.is, exchange.act_is)))
       (λ left. ⊎_elim (λ other. inl (same_handle-false x h other)) (λ full. inr (inl full)) (and_false (same_handle x h) (has_room f.limbo) left.0))
       (branch k f (same_handle x h && has_room f.limbo) _ _ xs b runs)
 
@@ -110,9 +110,9 @@ module _ (k : Key) (h : Handle) where
       subst (RowPurged k f h row out) (sym whole) (
         handle.act_is,
         ⊎_elim
-        (λ other. inl (λ is. other (sym handle.answer ∙ is)))
-        (λ others. inr (⊎_elim (λ full. inl (subst (λ (x : Fields). has_room x.limbo ≡ false) same full)) (λ t. inr t) others))
-        (taken_out f1 a.answer out read g otherwise a.rest b plain a.second),
+            (λ other. inl (λ is. other (sym handle.answer ∙ is)))
+            (λ others. inr (⊎_elim (λ full. inl (subst (λ (x : Fields). has_room x.limbo ≡ false) same full)) (λ t. inr t) others))
+            (taken_out f1 a.answer out read g otherwise a.rest b plain a.second),
       )
 
   -- ---- one cell, one bucket
@@ -141,19 +141,19 @@ module _ (k : Key) (h : Handle) where
       let c = splits k g (purging_cell h from a.answer) _ a.rest u a.second in
       ⊎_elim
       (λ (later : from < site). cell_rest site f a.front a.rest xs a.whole (cell_rest site g c.front c.rest a.rest c.whole
-          (cells_purged n (from + 1) site (omega arith) (omega arith) (after_steps k g c.front) c.rest u c.second)))
+      (cells_purged n (from + 1) site (omega arith) (omega arith) (after_steps k g c.front) c.rest u c.second)))
       (λ (here : site ≤ from).
-          let is : site ≡ from = omega arith in
-          let purged : CellPurged k f h from (unpacked_cell load.step.step.found) c.front =
-              subst (λ (w : CellWord). CellPurged k f h from w c.front) (sym load.answer) (subst (λ (x : Fields). CellPurged k x h from a.answer c.front) same (cell_purged g from a.answer c.front c.answer c.first)) in
-          subst (λ (s : ℕ). PurgesCell k h s f xs) (sym is) (record {
-            before = [];
-            load = load.step;
-            more = c.front ++ c.rest;
-            whole = a.whole ∙ (ap (λ (l : List TrailStep). l ++ a.rest) load.is ∙ ap (λ (l : List TrailStep). load.step ∷ l) c.whole);
-            load_is = load.act_is;
-            purged = cell_more f from (unpacked_cell load.step.step.found) c.front c.rest purged;
-          }))
+      let is : site ≡ from = omega arith in
+      let purged : CellPurged k f h from (unpacked_cell load.step.step.found) c.front =
+      subst (λ (w : CellWord). CellPurged k f h from w c.front) (sym load.answer) (subst (λ (x : Fields). CellPurged k x h from a.answer c.front) same (cell_purged g from a.answer c.front c.answer c.first)) in
+      subst (λ (s : ℕ). PurgesCell k h s f xs) (sym is) (record {
+        before = [];
+        load = load.step;
+        more = c.front ++ c.rest;
+        whole = a.whole ∙ (ap (λ (l : List TrailStep). l ++ a.rest) load.is ∙ ap (λ (l : List TrailStep). load.step ∷ l) c.whole);
+        load_is = load.act_is;
+        purged = cell_more f from (unpacked_cell load.step.step.found) c.front c.rest purged;
+      }))
       (cases_lt from site)
 
   buckets_purged : (n from bucket : ℕ) → from ≤ bucket → bucket < from + n → (f : Fields) (xs : List TrailStep) (u : Unit {0}) → Runs k f (purging_buckets h n from) xs u → PurgesBucket k h bucket f xs
@@ -167,19 +167,19 @@ module _ (k : Key) (h : Handle) where
       let c = splits k g (purging_bucket h from a.answer) _ a.rest u a.second in
       ⊎_elim
       (λ (later : from < bucket). bucket_rest bucket f a.front a.rest xs a.whole (bucket_rest bucket g c.front c.rest a.rest c.whole
-          (buckets_purged n (from + 1) bucket (omega arith) (omega arith) (after_steps k g c.front) c.rest u c.second)))
+      (buckets_purged n (from + 1) bucket (omega arith) (omega arith) (after_steps k g c.front) c.rest u c.second)))
       (λ (here : bucket ≤ from).
-          let is : bucket ≡ from = omega arith in
-          let purged : BucketPurged k f h from (unpacked_bucket load.step.step.found) c.front =
-              subst (λ (w : Option ℕ). BucketPurged k f h from w c.front) (sym load.answer) (subst (λ (x : Fields). BucketPurged k x h from a.answer c.front) same (bucket_purged g from a.answer c.front c.answer c.first)) in
-          subst (λ (s : ℕ). PurgesBucket k h s f xs) (sym is) (record {
-            before = [];
-            load = load.step;
-            more = c.front ++ c.rest;
-            whole = a.whole ∙ (ap (λ (l : List TrailStep). l ++ a.rest) load.is ∙ ap (λ (l : List TrailStep). load.step ∷ l) c.whole);
-            load_is = load.act_is;
-            purged = bucket_more f from (unpacked_bucket load.step.step.found) c.front c.rest purged;
-          }))
+      let is : bucket ≡ from = omega arith in
+      let purged : BucketPurged k f h from (unpacked_bucket load.step.step.found) c.front =
+      subst (λ (w : Option ℕ). BucketPurged k f h from w c.front) (sym load.answer) (subst (λ (x : Fields). BucketPurged k x h from a.answer c.front) same (bucket_purged g from a.answer c.front c.answer c.first)) in
+      subst (λ (s : ℕ). PurgesBucket k h s f xs) (sym is) (record {
+        before = [];
+        load = load.step;
+        more = c.front ++ c.rest;
+        whole = a.whole ∙ (ap (λ (l : List TrailStep). l ++ a.rest) load.is ∙ ap (λ (l : List TrailStep). load.step ∷ l) c.whole);
+        load_is = load.act_is;
+        purged = bucket_more f from (unpacked_bucket load.step.step.found) c.front c.rest purged;
+      }))
       (cases_lt from bucket)
 
   -- ---- an unload

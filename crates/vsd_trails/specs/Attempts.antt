@@ -1,5 +1,5 @@
 -- What a call tries after a walk and at a cell that was Lookup, how it ends, and what an unload tries at each cell and bucket.
-use Rattle.std.specs.Prelude.{◌≡◌, ◌≢◌, ◌⊎◌, ℕ, true, false, List, [], ◌∷◌, ◌++◌, Option, Some, None}
+use Rattle.std.specs.Prelude.{◌≡◌, ◌≢◌, ◌⊎◌, ℕ, false, List, [], ◌∷◌, ◌++◌, Option, Some, None}
 use Rattle.vsd_words.specs.declared.handle.Handle.{Handle}
 use Rattle.vsd_words.specs.declared.cell_word.CellWord.{CellWord}
 use Rattle.vsd_words.specs.declared.cell_word.CellWord.TheVariants.{Lookup, Resolve, Dispatch}
@@ -11,7 +11,7 @@ use Rattle.vsd_rule.specs.declared.step.Act.TheVariants.{Unpin, SetHandle, SetTo
 use Rattle.vsd_rule.specs.declared.step.RowWord.TheVariants as word
 use Rattle.vsd_rule.specs.Lists.{site_token}
 use Rattle.vsd_rule.specs.RowSteps.{unpacked_handle, is_clear}
-use Rattle.vsd_trails.specs.Programs.{Fields, TrailStep, Program, after_steps, Runs}
+use Rattle.vsd_trails.specs.Programs.{Fields, TrailStep, after_steps, Runs}
 use Rattle.vsd_trails.specs.Words.{unpacked_cell, unpacked_bucket}
 use Rattle.vsd_trails.specs.RowTrails.{has_room, claiming}
 
