@@ -18,4 +18,5 @@ pub mod RowLimbo
 pub mod CastLooks
 pub mod CastWrites
 pub mod RuleByRows
+pub mod RuleByClaims
 pub mod RuleByCasts

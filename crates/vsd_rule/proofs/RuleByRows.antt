@@ -4,7 +4,7 @@ use Rattle.std.proofs.lemmas.List.{map-set}
 use Rattle.std.specs.Prelude.{IfSome}
 use mathlib.Core.Option.{some}
 use lib.ListN.{get_elem?}
-use Rattle.atomic_table.proofs.Lists.{at_set, at_map}
+use Rattle.atomic_table.proofs.Lists.{at_set, set_again, at_map}
 use Rattle.vsd_rule.specs.declared.key.Key.{Key}
 use Rattle.vsd_rule.specs.declared.cast_view.CastView.{CastView}
 use Rattle.vsd_rule.specs.declared.row_view.RowView.{RowView}
@@ -85,6 +85,10 @@ module _ (k : Key) (words : List ℕ) (views : List View) (r : Rule k words view
         rows = subst (Rows k w.gen w.name y.epoch y.pins y.cells y.rows y.buckets) (sym (map-set row_seat views id v')) true_rows;
         casts = subst (Casts k w.gen w.name z.region z.casts) (sym (unseen_set cast_view views id v v' at refl)) w.casts;
       }
+
+  -- where the seat knows nothing new
+  pub rows_still : RowsAre (row_zones z) v.rows
+  rows_still = subst (Rows k w.gen w.name z.epoch z.pins z.cells z.rows z.buckets) (sym (set_again seats id d at_row_seat)) w.rows
 
   -- a step that changes no word
   pub by_rows : (rows : RowView) (act : Act) (found : ℕ) → RowsAre (row_zones z) rows → Rule k words (set views id (after_rows v rows act found))

@@ -128,6 +128,13 @@ sees_target k d row target = record (sees d row (with_target target)) { evidence
 abbrev pub unpacked_handle : ℕ → Handle
 unpacked_handle word = record { row = word % 32768; generation = word / 32768 }
 
+-- which of a row's four words it is
+abbrev pub offset_of : RowWord → ℕ
+offset_of word.Claim = 0
+offset_of word.Handle = 1
+offset_of word.Token = 2
+offset_of word.Target = 3
+
 abbrev pub row_word_seen : Key → RowView → ℕ → RowWord → ℕ → RowView
 row_word_seen k d row word.Claim found = record d { cursor = next_row k row }
 row_word_seen k d row word.Handle found = sees d row (with_handle (unpacked_handle found))
