@@ -19,4 +19,5 @@ pub mod CastLooks
 pub mod CastWrites
 pub mod RuleByRows
 pub mod RuleByClaims
+pub mod RuleByCells
 pub mod RuleByCasts

@@ -32,6 +32,9 @@ keeps_row d row keeping = record d { kept = record { row = row; keeping = keepin
 abbrev pub nothing_known : KnownWords
 nothing_known = record { handle = None; token = None; target = None }
 
+abbrev pub all_words : Handle → ℕ → ℕ → KnownWords
+all_words h token target = record { handle = Some h; token = Some token; target = Some target }
+
 -- ---- the epoch, pinning
 
 abbrev pub after_epoch : View → ℕ → View
