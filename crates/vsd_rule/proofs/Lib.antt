@@ -20,4 +20,5 @@ pub mod CastWrites
 pub mod RuleByRows
 pub mod RuleByClaims
 pub mod RuleByCells
+pub mod RuleByLimbo
 pub mod RuleByCasts

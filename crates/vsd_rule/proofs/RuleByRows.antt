@@ -111,6 +111,11 @@ module _ (k : Key) (words : List ℕ) (views : List View) (r : Rule k words view
       apart_of k.sizes (map who_of views) w.seats id caller (at_map who_of views id v at ∙ ap some who) seat e.who other
       (sym (ap (λ (ws : List Who). get_elem? ws seat) (whos_of_rows views)) ∙ at_map (λ (d : RowSeat). d.who) seats seat e there)
 
+  -- each caller's number is in range
+  pub callers_below : (seat number : ℕ) (e : RowSeat) → get_elem? seats seat ≡ some e → e.who ≡ Caller number → number < k.sizes.callers
+  callers_below seat number e there who =
+      w.seats.in_range seat number (sym (ap (λ (ws : List Who). get_elem? ws seat) (whos_of_rows views)) ∙ (at_map (λ (d : RowSeat). d.who) seats seat e there ∙ ap some who))
+
   pub caller_below : (caller : ℕ) → v.who ≡ Caller caller → caller < k.sizes.callers
   caller_below caller who = w.seats.in_range id caller (at_map who_of views id v at ∙ ap some who)
 
