@@ -10,7 +10,7 @@ use Rattle.vsd_rule.specs.declared.row_view.Keeping.TheVariants.{Unlinked}
 use Rattle.vsd_rule.specs.declared.step.Act.TheVariants.{EpochToRetire, Raise, EpochOf, FreeSwept}
 use Rattle.vsd_rule.specs.declared.view.View.{View}
 use Rattle.vsd_rule.specs.declared.view.Who.TheVariants.{Caller}
-use Rattle.vsd_rule.specs.Layout.{pin_at}
+use Rattle.vsd_rule.specs.Layout.{pin_at, row_word_at}
 use Rattle.vsd_rule.specs.Zones.{Zones, zones}
 use Rattle.vsd_rule.specs.Rows.{Rows, RowSeat, keeping_of}
 use Rattle.vsd_rule.specs.Rule.{Rule, row_seat, who_of}
@@ -18,7 +18,7 @@ use Rattle.vsd_rule.specs.RowSteps.{after_raise, retired, after_epoch_to_retire,
 use Rattle.vsd_rule.proofs.Windows.{epoch_word, epoch_written, pin_word, rows_length, row_written}
 use Rattle.vsd_rule.proofs.RowPins.{epoch_keeps}
 use Rattle.vsd_rule.proofs.RowLimbo.{retire_keeps, epoch_of_keeps, free_swept_keeps}
-use Rattle.vsd_rule.proofs.RuleByClaims.{row_index, nothing_keeps}
+use Rattle.vsd_rule.proofs.RuleByClaims.{nothing_keeps}
 use Rattle.vsd_rule.proofs.RuleByRows as by
 
 module _ (k : Key) (words : List ℕ) (views : List View) (r : Rule k words views) (id : ℕ) (v : View) (at : get_elem? views id ≡ some v) where
@@ -56,14 +56,14 @@ module _ (k : Key) (words : List ℕ) (views : List View) (r : Rule k words view
 
   -- every caller was passed
   pub free_oldest_keeps : (oldest : RetiredRow) (others : List RetiredRow) → v.rows.limbo ≡ oldest ∷ others → v.rows.passed ≡ k.sizes.callers
-      → Rule k (set words (row_index k oldest.row 0) 0) (set views id (after_free_swept v oldest.row))
+      → Rule k (set words (row_word_at k.sizes oldest.row 0) 0) (set views id (after_free_swept v oldest.row))
   free_oldest_keeps oldest others queue passed =
       let row : ℕ = oldest.row in
       let d = by.d k words views r id v at in
       let there = by.at_row_seat k words views r id v at in
       let small : row < k.sizes.rows = ((by.mine k words views r id v at).limbo 0 oldest (ap (λ (xs : List RetiredRow). get_elem? xs 0) queue)).row in
       let first : 4 * row + 0 ≡ 4 * row = omega arith in
-      by.by_write k words views r id v at (row_index k row 0) 0 (record (by.row_zones z) { rows = set z.rows (4 * row + 0) 0 }) (freed v.rows row) (FreeSwept row) 0
+      by.by_write k words views r id v at (row_word_at k.sizes row 0) 0 (record (by.row_zones z) { rows = set z.rows (4 * row + 0) 0 }) (freed v.rows row) (FreeSwept row) 0
       (row_written k.sizes words (4 * row + 0) 0 (omega arith))
       (subst (λ (i : ℕ). by.RowsAre k words views r id v at (record (by.row_zones z) { rows = set z.rows i 0 }) (freed v.rows row)) (sym first)
           (free_swept_keeps k rows id d there oldest others queue passed (rows_length k.sizes words r.sized) (λ seat number e other who. by.callers_below k words views r id v at seat number e other who)))
