@@ -2,5 +2,6 @@ pub mod Kept
 pub mod Powers
 pub mod HandleWords
 pub mod EpochWords
+pub mod RowWords
 pub mod Seats
 pub mod Laid

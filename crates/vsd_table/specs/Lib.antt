@@ -2,5 +2,6 @@ pub mod Offsets
 pub mod StepKind
 pub mod HandleKinds
 pub mod EpochKinds
+pub mod RowKinds
 pub mod Seating
 pub mod Stepping

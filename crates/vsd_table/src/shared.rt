@@ -1,12 +1,13 @@
 ghost use Rattle.std.specs.Prelude.{◌≡◌, ◌+◌, ◌<◌};
 ghost use Rattle.vsd_rule.specs.Sizes.{LawfulSizes};
-ghost use Rattle.vsd_rule.specs.Layout.{word_count, pin_at, handles_from, handle_rows};
+ghost use Rattle.vsd_rule.specs.Layout.{word_count, pin_at, row_word_at, handles_from, handle_rows};
+ghost use Rattle.vsd_rule.specs.RowSteps.{offset_of};
 ghost use Rattle.vsd_table.specs.Offsets.{AreOffsets, SameSizes};
 
 use crate::offsets::Offsets;
 use atomic_table::{Table, TableRule};
 use std::alloc::Global;
-use vsd_rule::{Key, Sizes, View};
+use vsd_rule::{Key, RowWord, Sizes, View};
 
 /// The rule of `vsd_rule`, as the rule of a table.
 pub(crate) struct SharedRule;
@@ -54,6 +55,16 @@ impl Shared {
         8 + 8 * usize::from(caller)
     }
 
+    /// Where one of a row's four words lies.
+    #[inline]
+    pub(crate) fn row_word_index(&self, row: u16, which: RowWord) -> usize
+        requires { row < (key_of self.now).sizes.rows }
+        ensures index { result ≡ row_word_at (key_of self.now).sizes row (offset_of which) }
+        ensures within { result < self.now.table.shared.table_id.words }
+    {
+        self.offsets.rows + (4 * usize::from(row) + offset_of(which))
+    }
+
     /// Where the word of a row of handles lies.
     #[inline]
     pub(crate) fn handle_index(&self, row: u16) -> usize
@@ -62,5 +73,19 @@ impl Shared {
         ensures within { result < self.now.table.shared.table_id.words }
     {
         self.offsets.handles + usize::from(row)
+    }
+}
+
+/// Which of a row's four words it is.
+#[inline]
+fn offset_of(which: RowWord) -> usize
+    ensures value { result ≡ offset_of which }
+    ensures few { result < 4 }
+{
+    match which {
+        RowWord::Claim => 0,
+        RowWord::Handle => 1,
+        RowWord::Token => 2,
+        RowWord::Target => 3,
     }
 }
