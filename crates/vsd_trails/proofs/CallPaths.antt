@@ -22,7 +22,7 @@ use Rattle.vsd_trails.specs.CallTrails.{Stubbed, stub_hit, stub_miss, stubbing, 
 use Rattle.vsd_trails.specs.CallPaths.{load_of, InTurn, cell_loads, bucket_loads, HeldByCell, HeldByBucket, HoldsPair, CellShown, BucketShown, IsSeen, IsNoHandleLoad, LoadsNoHandle, AnswerTells}
 use Rattle.vsd_trails.proofs.Runs.{makes_only}
 use Rattle.vsd_trails.proofs.Words.{cell_read}
-use Rattle.vsd_trails.proofs.Loads.{nothing_run, each_append, each_weaker, only_there}
+use Rattle.vsd_trails.proofs.Loads.{nothing_run, gone_shown, each_append, each_weaker, only_there}
 use Rattle.vsd_trails.proofs.CallParts.{IsOther, Others, IsNoCellLoad, NoCell, other_no_cell, later_no_cell, CallParts, BucketParts, call_parts, bucket_parts}
 use Rattle.vsd_trails.proofs.CallShapes.{NoRowShape, OtherShape, hit_shape, miss_shape, EntryHit, EntryOther, EntryEmpty, EntryShape, entry_shape, Walk, hit_goes, other_walks, empty_walks}
 
@@ -91,12 +91,6 @@ three_loads (x ∷ []) c d e same = absurd (cc)
 three_loads (x ∷ y ∷ []) c d e same = absurd (cc)
 three_loads (x ∷ y ∷ z ∷ []) c d e same = record { u = x; v = y; w = z; whole = refl; first = cc; second = cc; third = cc }
 three_loads (x ∷ y ∷ z ∷ q ∷ qs) c d e same = absurd (cc)
-
--- ---- the word of an unloaded handle
-
-chosen_err : (b : Bool) (number : ℕ) (r u : Unloaded) → (let given : Result ℕ Unloaded = if b then Ok number else Err r in given ≡ Err u) → (b ≡ false) × (r ≡ u)
-chosen_err true number r u same = absurd (cc)
-chosen_err false number r u same = (refl, cc)
 
 -- ---- a row that the bucket names and that does not hold the pair
 
@@ -323,26 +317,11 @@ module _ (k : Key) (site : ℕ) (h : Handle) (f : Fields) (trail : List TrailSte
         ⊎_elim
         (λ walked. subst (AnswerTells k site h trail) (sym walked.2) (shown, unheld))
         (λ gone.
-        let u = gone.0 in
-        let e = chosen_err (is_live_at h.generation (unpacked_handle_word w.load.step.found)) (unpacked_handle_word w.load.step.found).number (record { handle = h; found = unpacked_handle_word w.load.step.found }) u gone.1 in
-        let word : unpacked_handle_word w.load.step.found ≡ u.found = ap (λ (x : Unloaded). x.found) e.1 in
-        let load : InTurn trail ((LoadHandle h.row, w.load.step.found) ∷ []) = record {
-          before = front ++ b.named ∷ b.entries;
-          there = w.load ∷ [];
-          after = w.more ++ p.ends;
-          whole = at_bucket ∙ (ap (λ (l : List TrailStep). front ++ b.named ∷ (b.entries ++ (l ++ p.ends))) w.whole ∙ sym (append_assoc front (b.named ∷ b.entries) (w.load ∷ (w.more ++ p.ends))));
-          same = λ c. (w.load_is c, w.load.step.found) ∷ [];
-        } in
-        subst (AnswerTells k site h trail) (sym gone.2) (
-          record {
-            handle = ap (λ (x : Unloaded). x.handle) (sym e.1);
-            gone = subst (λ (x : HandleWord). is_live_at h.generation x ≡ false) word e.0;
-            packed = w.load.step.found;
-            word = word;
-            load = load;
-          },
-          unheld,
-        ))
+            let place : (front ++ b.named ∷ b.entries) ++ w.load ∷ (w.more ++ p.ends) ≡ trail =
+                sym (at_bucket ∙ (ap (λ (l : List TrailStep). front ++ b.named ∷ (b.entries ++ (l ++ p.ends))) w.whole ∙ sym (append_assoc front (b.named ∷ b.entries) (w.load ∷ (w.more ++ p.ends))))) in
+            let shows : ShowsUnloaded h trail gone.0 =
+                subst (λ (l : List TrailStep). ShowsUnloaded h l gone.0) place (gone_shown h w.load (front ++ b.named ∷ b.entries) (w.more ++ p.ends) gone.0 w.load_is gone.1) in
+            subst (AnswerTells k site h trail) (sym gone.2) (shows, unheld))
         w.by_type
 
     miss_tells : (found : Found) → b.found ≡ found → AnswerTells k site h trail answer

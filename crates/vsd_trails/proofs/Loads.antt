@@ -1,12 +1,15 @@
 -- One step of a run, a branch of a run, and where a step of one kind stands in a list.
-use Rattle.std.proofs.Common.{◌≡◌, ◌≢◌, ◌⊎◌, inl, inr, ℕ, Bool, true, false, ◌&&◌, List, [], ◌∷◌, ◌++◌, refl, sym, ◌∙◌, ap, subst}
+use Rattle.std.proofs.Common.{◌≡◌, ◌≢◌, ◌⊎◌, inl, inr, ℕ, Bool, true, false, ◌&&◌, List, [], ◌∷◌, ◌++◌, refl, sym, ◌∙◌, ap, subst, Result, Ok, Err, if◌then◌else◌}
 use Rattle.std.proofs.lemmas.Bool.{eqb-true, eq-eqb}
 use Rattle.vsd_words.specs.declared.handle.Handle.{Handle}
+use Rattle.vsd_words.specs.declared.handle_word.HandleWord.{HandleWord}
 use Rattle.vsd_rule.specs.declared.key.Key.{Key}
 use Rattle.vsd_rule.specs.declared.step.Act.{Act}
-use Rattle.vsd_rule.specs.declared.step.Act.TheVariants.{Unbind}
+use Rattle.vsd_rule.specs.declared.step.Act.TheVariants.{Unbind, LoadHandle}
 use Rattle.vsd_trails.specs.Programs.{Fields, TrailStep, Asked, Program, done, ask, asked_act, asked_of, when◌then◌else◌, Runs, EachStep}
-use Rattle.vsd_trails.specs.Words.{same_handle}
+use Rattle.vsd_trails.specs.declared.answers.Unloaded.{Unloaded}
+use Rattle.vsd_trails.specs.Words.{same_handle, unpacked_handle_word, is_live_at, type_by}
+use Rattle.vsd_trails.specs.CallPaths.{ShowsUnloaded}
 
 -- ---- the act of a step that was asked for
 
@@ -94,3 +97,24 @@ only_there P [] y rest (b ∷ bs) x after all more lacks same =
     absurd (lacks (each_there P bs x after (subst (EachStep P) tails more)))
 only_there P (p ∷ ps) y rest [] x after all more lacks same = let heads : p ≡ x = cc in absurd (lacks (subst (λ (z : TrailStep). P (asked_of z)) heads all.0))
 only_there P (p ∷ ps) y rest (b ∷ bs) x after all more lacks same = let tails : ps ++ y ∷ rest ≡ bs ++ x ∷ after = cc in only_there P ps y rest bs x after all.1 more lacks tails
+
+-- ---- the word of an unloaded handle
+
+chosen_err : (b : Bool) (number : ℕ) (r u : Unloaded) → (let given : Result ℕ Unloaded = if b then Ok number else Err r in given ≡ Err u) → (b ≡ false) × (r ≡ u)
+chosen_err true number r u same = absurd (cc)
+chosen_err false number r u same = (refl, cc)
+
+-- a handle word by which the handle is unloaded, loaded after some steps
+pub gone_shown : (h : Handle) (x : TrailStep) (before after : List TrailStep) (u : Unloaded) → x.step.act ≡ LoadHandle h.row → type_by h (unpacked_handle_word x.step.found) ≡ Err u → ShowsUnloaded h (before ++ x ∷ after) u
+gone_shown h x before after u is type =
+    let w = unpacked_handle_word x.step.found in
+    let e = chosen_err (is_live_at h.generation w) w.number (record { handle = h; found = w }) u type in
+    let word : w ≡ u.found = ap (λ (y : Unloaded). y.found) e.1 in
+    record {
+      handle = ap (λ (y : Unloaded). y.handle) (sym e.1);
+      gone = subst (λ (y : HandleWord). is_live_at h.generation y ≡ false) word e.0;
+      packed = x.step.found;
+      word = word;
+      load = record { before = before; there = x ∷ []; after = after; whole = refl; same = λ i. (is i, x.step.found) ∷ [] };
+    }
+

@@ -9,3 +9,4 @@ pub mod Operations
 pub mod Logs
 pub mod CallPaths
 pub mod Attempts
+pub mod CastPaths

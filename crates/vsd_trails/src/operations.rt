@@ -1,10 +1,11 @@
 // What holds of the operations. Each law is a function that does nothing and ensures it.
-ghost use Rattle.std.specs.Prelude.{ℕ, ◌+◌, ◌*◌, ◌<◌, List, [], ◌∷◌, Result, Ok, Err};
+ghost use Rattle.std.specs.Prelude.{◌⊎◌, ℕ, ◌+◌, ◌*◌, ◌<◌, List, [], ◌∷◌, Result, Ok, Err};
 ghost use Rattle.vsd_words.specs.declared.handle.Handle.{Handle};
 ghost use Rattle.vsd_rule.specs.declared.key.Key.{Key};
 ghost use Rattle.vsd_rule.specs.declared.step.Act.TheVariants.{LoadCell};
 ghost use Rattle.vsd_rule.specs.declared.step.Doing.TheVariants.{Nothing};
 ghost use Rattle.vsd_trails.specs.declared.answers.Answer.{Answer};
+ghost use Rattle.vsd_trails.specs.declared.answers.CastAnswer.{CastAnswer};
 ghost use Rattle.vsd_trails.specs.declared.answers.Seen.{Seen};
 ghost use Rattle.vsd_trails.specs.declared.answers.Unloaded.{Unloaded};
 ghost use Rattle.vsd_trails.specs.Programs.{Fields, TrailStep, Runs};
@@ -15,6 +16,7 @@ ghost use Rattle.vsd_trails.specs.UnloadTrails.{binding, unloading};
 ghost use Rattle.vsd_trails.specs.Operations.{called, cast_to, loaded, unloaded};
 ghost use Rattle.vsd_trails.specs.Laws.{HasOneLog, AddsEntry, AddsNothing, TakesAtMost};
 ghost use Rattle.vsd_trails.specs.CallPaths.{InTurn, PathTells, ShowsUnloaded, HoldsPair};
+ghost use Rattle.vsd_trails.specs.CastPaths.{CastAnswerTells, HasNoHit};
 ghost use Rattle.vsd_trails.specs.Attempts.{TriesBucket, TriesCell, SweepsAtEnd, PurgesCell, PurgesBucket};
 
 /// A list of steps has at most one log.
@@ -56,6 +58,15 @@ pub fn answer_tells()
         Runs k f (calling k site h) trail (Ok a) → PathTells k site h trail a.target a.path }
     ensures unloaded { (k : Key) (site : ℕ) (h : Handle) (f : Fields) (trail : List TrailStep) (u : Unloaded) →
         Runs k f (calling k site h) trail (Err u) → ShowsUnloaded h trail u × (HoldsPair k site h trail → ⊥) }
+{}
+
+/// What the answer of a cast tells of its trail. Without a walk: a probe of the region that was loaded is a hit, and its
+/// cast word has the answer. With a walk, and where a handle is unloaded: no probe of the trail is a hit.
+pub fn cast_tells()
+    ensures answer { (k : Key) (source target : Handle) (f : Fields) (trail : List TrailStep) (a : CastAnswer) →
+        Runs k f (casting k source target) trail (Ok a) → CastAnswerTells source target trail a.yes a.walked }
+    ensures unloaded { (k : Key) (source target : Handle) (f : Fields) (trail : List TrailStep) (u : Unloaded) →
+        Runs k f (casting k source target) trail (Err u) → HasNoHit source target trail × (ShowsUnloaded source trail u ⊎ ShowsUnloaded target trail u) }
 {}
 
 /// What a call tries besides. A walk swaps its pair into the pair's bucket, but where limbo has no room or no row is given.
