@@ -1,7 +1,6 @@
 -- What the answer of a call tells of its trail.
-use Rattle.std.proofs.Common.{◌≡◌, ℕ, ◌+◌, Bool, true, false, List, [], ◌∷◌, ◌++◌, map, append_assoc, Option, Some, None, Result, Ok, Err, refl, sym, ◌∙◌, ap, subst, ⊎_elim, if◌then◌else◌, arith}
+use Rattle.std.proofs.Common.{◌≡◌, ℕ, ◌+◌, List, [], ◌∷◌, ◌++◌, map, append_assoc, Option, Some, None, Result, refl, sym, ◌∙◌, ap, subst, ⊎_elim, arith}
 use Rattle.vsd_words.specs.declared.handle.Handle.{Handle}
-use Rattle.vsd_words.specs.declared.handle_word.HandleWord.{HandleWord}
 use Rattle.vsd_words.specs.declared.cell_word.CellWord.{CellWord}
 use Rattle.vsd_words.specs.declared.cell_word.CellWord.TheVariants.{Dispatch}
 use Rattle.vsd_words.specs.Hash.{bucket_of}
@@ -17,9 +16,9 @@ use Rattle.vsd_trails.specs.declared.answers.Unloaded.{Unloaded}
 use Rattle.vsd_trails.specs.declared.answers.Found.{Found}
 use Rattle.vsd_trails.specs.declared.answers.Found.TheVariants.{Hit, Other, Empty}
 use Rattle.vsd_trails.specs.Programs.{Fields, TrailStep, Asked, asked_act, asked_of, Runs, EachStep}
-use Rattle.vsd_trails.specs.Words.{unpacked_cell, unpacked_handle_word, is_live_at}
+use Rattle.vsd_trails.specs.Words.{unpacked_cell}
 use Rattle.vsd_trails.specs.CallTrails.{Stubbed, stub_hit, stub_miss, stubbing, seen_by, by_stub, resolving_by, answering_by, calling}
-use Rattle.vsd_trails.specs.CallPaths.{load_of, InTurn, cell_loads, bucket_loads, HeldByCell, HeldByBucket, HoldsPair, CellShown, BucketShown, IsSeen, IsNoHandleLoad, LoadsNoHandle, AnswerTells}
+use Rattle.vsd_trails.specs.CallPaths.{load_of, InTurn, cell_loads, bucket_loads, HeldByCell, HeldByBucket, HoldsPair, CellShown, BucketShown, IsSeen, IsNoHandleLoad, LoadsNoHandle, AnswerTells, ShowsUnloaded}
 use Rattle.vsd_trails.proofs.Runs.{makes_only}
 use Rattle.vsd_trails.proofs.Words.{cell_read}
 use Rattle.vsd_trails.proofs.Loads.{nothing_run, gone_shown, each_append, each_weaker, only_there}
@@ -317,11 +316,11 @@ module _ (k : Key) (site : ℕ) (h : Handle) (f : Fields) (trail : List TrailSte
         ⊎_elim
         (λ walked. subst (AnswerTells k site h trail) (sym walked.2) (shown, unheld))
         (λ gone.
-            let place : (front ++ b.named ∷ b.entries) ++ w.load ∷ (w.more ++ p.ends) ≡ trail =
-                sym (at_bucket ∙ (ap (λ (l : List TrailStep). front ++ b.named ∷ (b.entries ++ (l ++ p.ends))) w.whole ∙ sym (append_assoc front (b.named ∷ b.entries) (w.load ∷ (w.more ++ p.ends))))) in
-            let shows : ShowsUnloaded h trail gone.0 =
-                subst (λ (l : List TrailStep). ShowsUnloaded h l gone.0) place (gone_shown h w.load (front ++ b.named ∷ b.entries) (w.more ++ p.ends) gone.0 w.load_is gone.1) in
-            subst (AnswerTells k site h trail) (sym gone.2) (shows, unheld))
+        let place : (front ++ b.named ∷ b.entries) ++ w.load ∷ (w.more ++ p.ends) ≡ trail =
+        sym (at_bucket ∙ (ap (λ (l : List TrailStep). front ++ b.named ∷ (b.entries ++ (l ++ p.ends))) w.whole ∙ sym (append_assoc front (b.named ∷ b.entries) (w.load ∷ (w.more ++ p.ends))))) in
+        let shows : ShowsUnloaded h trail gone.0 =
+        subst (λ (l : List TrailStep). ShowsUnloaded h l gone.0) place (gone_shown h w.load (front ++ b.named ∷ b.entries) (w.more ++ p.ends) gone.0 w.load_is gone.1) in
+        subst (AnswerTells k site h trail) (sym gone.2) (shows, unheld))
         w.by_type
 
     miss_tells : (found : Found) → b.found ≡ found → AnswerTells k site h trail answer

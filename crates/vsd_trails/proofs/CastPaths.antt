@@ -1,5 +1,5 @@
 -- What the answer of a cast tells of its trail.
-use Rattle.std.proofs.Common.{◌≡◌, ◌⊎◌, inl, inr, ℕ, zero, suc, ◌+◌, ◌<◌, ◌≤◌, Bool, true, false, List, [], ◌∷◌, ◌++◌, append_assoc, Option, Some, None, Result, Ok, Err, refl, sym, ◌∙◌, ap, subst, ⊎_elim, arith}
+use Rattle.std.proofs.Common.{◌≡◌, ◌⊎◌, inl, inr, ℕ, zero, suc, Bool, true, List, [], ◌∷◌, ◌++◌, append_assoc, Option, Some, None, Result, Ok, Err, sym, ◌∙◌, ap, subst, ⊎_elim, arith}
 use Rattle.vsd_words.specs.declared.handle.Handle.{Handle}
 use Rattle.vsd_words.specs.declared.cast_word.CastWord.{CastWord}
 use Rattle.vsd_words.specs.Hash.{home_of}
@@ -12,16 +12,16 @@ use Rattle.vsd_trails.specs.declared.answers.Unloaded.{Unloaded}
 use Rattle.vsd_trails.specs.declared.casting.Miss.{Miss}
 use Rattle.vsd_trails.specs.declared.casting.Find.{Find}
 use Rattle.vsd_trails.specs.declared.casting.Find.TheVariants as find
-use Rattle.vsd_trails.specs.Programs.{Fields, TrailStep, Program, done, ask, bind, after_steps, Runs}
+use Rattle.vsd_trails.specs.Programs.{Fields, TrailStep, done, ask, after_steps, Runs}
 use Rattle.vsd_trails.specs.Words.{unpacked_cast, unpacked_handle_word, type_by}
 use Rattle.vsd_trails.specs.RowTrails.{typing}
 use Rattle.vsd_trails.specs.CastTrails.{region_size, is_hit, probing, finding_cast, making_odd, publishing, writing, growing, putting_by, putting_cast, asking, typing_target, typing_source, casting_by, casting}
-use Rattle.vsd_trails.specs.CallPaths.{InTurn, ShowsUnloaded}
-use Rattle.vsd_trails.specs.CastPaths.{probe_loads, ShowsHit, HasNoHit, CastTells}
+use Rattle.vsd_trails.specs.CallPaths.{ShowsUnloaded}
+use Rattle.vsd_trails.specs.CastPaths.{ShowsHit, HasNoHit, CastTells}
 use Rattle.vsd_trails.proofs.Runs.{splits, makes_only}
 use Rattle.vsd_trails.proofs.Asking.{Only, nothing, one, and_then, either}
 use Rattle.vsd_trails.proofs.Loads.{one_load, nothing_run, gone_shown}
-use Rattle.vsd_trails.proofs.Probes.{Probe, hit_by, NoVersion, cons_unhit, plain_unhit, HitAt, miss_probed, hit_probed}
+use Rattle.vsd_trails.proofs.Probes.{hit_by, NoVersion, cons_unhit, plain_unhit, miss_probed, hit_probed}
 
 -- ---- the look into the cast cache, and what comes after it
 
@@ -57,8 +57,8 @@ module _ (k : Key) (source target : Handle) where
       let p = h.probe in
       let hit = hit_by (is_hit source target p.a.step.found (unpacked_handle p.b.step.found) (unpacked_cast p.c.step.found) p.d.step.found) (unpacked_cast p.c.step.found).yes answer p.a.step.found p.is in
       let inside : xs ++ rest ≡ (l.region ∷ h.before) ++ ((p.a ∷ p.b ∷ p.c ∷ p.d ∷ []) ++ (h.after ++ rest)) =
-          ap (λ (y : List TrailStep). y ++ rest) (l.whole ∙ ap (λ (y : List TrailStep). l.region ∷ y) (h.whole ∙ ap (λ (y : List TrailStep). h.before ++ (y ++ h.after)) p.whole))
-          ∙ ap (λ (y : List TrailStep). l.region ∷ y) (append_assoc h.before (p.a ∷ p.b ∷ p.c ∷ p.d ∷ h.after) rest) in
+      ap (λ (y : List TrailStep). y ++ rest) (l.whole ∙ ap (λ (y : List TrailStep). l.region ∷ y) (h.whole ∙ ap (λ (y : List TrailStep). h.before ++ (y ++ h.after)) p.whole))
+      ∙ ap (λ (y : List TrailStep). l.region ∷ y) (append_assoc h.before (p.a ∷ p.b ∷ p.c ∷ p.d ∷ h.after) rest) in
       let high = h.high in
       record {
         region = l.region.step.found;
@@ -142,7 +142,7 @@ module _ (k : Key) (source target : Handle) where
       let load = one_load k f (LoadHandle target.row) None (λ word. type_by target (unpacked_handle_word word)) a.front a.answer tt a.first in
       let t = target_missed a.answer (after_steps k f a.front) m number load.step (before ++ x ∷ []) a.rest answer load.act_is load.answer a.second in
       let place : (before ++ x ∷ []) ++ load.step ∷ a.rest ≡ before ++ x ∷ xs =
-          append_assoc before (x ∷ []) (load.step ∷ a.rest) ∙ ap (λ (l : List TrailStep). before ++ x ∷ l) (sym (a.whole ∙ ap (λ (l : List TrailStep). l ++ a.rest) load.is)) in
+      append_assoc before (x ∷ []) (load.step ∷ a.rest) ∙ ap (λ (l : List TrailStep). before ++ x ∷ l) (sym (a.whole ∙ ap (λ (l : List TrailStep). l ++ a.rest) load.is)) in
       subst (λ (l : List TrailStep). Missed l answer) place t
 
   missed : (f : Fields) (m : Miss) (before xs : List TrailStep) (answer : Result CastAnswer Unloaded) → Runs k f (casting_by k source target (find.Miss m)) xs answer → Missed (before ++ xs) answer

@@ -117,4 +117,3 @@ gone_shown h x before after u is type =
       word = word;
       load = record { before = before; there = x ∷ []; after = after; whole = refl; same = λ i. (is i, x.step.found) ∷ [] };
     }
-

@@ -1,25 +1,19 @@
 -- The probes of a cast: which of them hit, and that where none did no four loads of the trail are a hit.
-use Rattle.std.proofs.Common.{◌≡◌, ◌⊎◌, inl, inr, ℕ, zero, suc, ◌+◌, ◌<◌, ◌≤◌, Bool, true, false, List, [], ◌∷◌, ◌++◌, map, append_assoc, append-nil, Option, None, Result, Ok, Err, refl, sym, ◌∙◌, ap, subst, ⊎_elim, if◌then◌else◌, arith}
+use Rattle.std.proofs.Common.{◌≡◌, ℕ, zero, suc, ◌+◌, ◌<◌, ◌≤◌, Bool, true, false, List, [], ◌∷◌, ◌++◌, map, append_assoc, append-nil, None, refl, sym, ◌∙◌, ap, subst, if◌then◌else◌, arith}
 use Rattle.vsd_words.specs.declared.handle.Handle.{Handle}
-use Rattle.vsd_words.specs.declared.handle_word.HandleWord.{HandleWord}
-use Rattle.vsd_words.specs.declared.cast_word.CastWord.{CastWord}
-use Rattle.vsd_words.specs.Hash.{home_of}
 use Rattle.vsd_rule.specs.declared.key.Key.{Key}
 use Rattle.vsd_rule.specs.declared.step.Act.{Act}
-use Rattle.vsd_rule.specs.declared.step.Act.TheVariants.{LoadVersion, LoadSource, LoadCast, LoadVersionAgain, LoadRegion, LoadHandle}
+use Rattle.vsd_rule.specs.declared.step.Act.TheVariants.{LoadVersion, LoadSource, LoadCast, LoadVersionAgain}
 use Rattle.vsd_rule.specs.RowSteps.{unpacked_handle}
-use Rattle.vsd_trails.specs.declared.answers.CastAnswer.{CastAnswer}
-use Rattle.vsd_trails.specs.declared.answers.Unloaded.{Unloaded}
 use Rattle.vsd_trails.specs.declared.casting.Miss.{Miss}
-use Rattle.vsd_trails.specs.declared.casting.Find.{Find}
 use Rattle.vsd_trails.specs.declared.casting.Find.TheVariants as find
-use Rattle.vsd_trails.specs.Programs.{Fields, TrailStep, Asked, Program, done, ask, bind, asked_act, asked_of, after_steps, Runs, EachStep}
-use Rattle.vsd_trails.specs.Words.{unpacked_cast, unpacked_handle_word, is_live_at, type_by}
-use Rattle.vsd_trails.specs.RowTrails.{reading, loading, typing}
-use Rattle.vsd_trails.specs.CastTrails.{region_size, probe_row, Probed, probe_hit, probe_miss, is_hit, probed, probing_row, unless_hit, probing, finding_cast, casting_by, casting}
-use Rattle.vsd_trails.specs.CallPaths.{load_of, InTurn, ShowsUnloaded}
-use Rattle.vsd_trails.specs.CastPaths.{probe_loads, ShowsHit, HasNoHit, CastTells}
-use Rattle.vsd_trails.proofs.Runs.{splits, makes_only}
+use Rattle.vsd_trails.specs.Programs.{Fields, TrailStep, Asked, asked_act, after_steps, Runs, EachStep}
+use Rattle.vsd_trails.specs.Words.{unpacked_cast}
+use Rattle.vsd_trails.specs.RowTrails.{reading, loading}
+use Rattle.vsd_trails.specs.CastTrails.{probe_row, Probed, probe_hit, probe_miss, is_hit, probed, probing_row, unless_hit, probing}
+use Rattle.vsd_trails.specs.CallPaths.{load_of}
+use Rattle.vsd_trails.specs.CastPaths.{probe_loads, HasNoHit}
+use Rattle.vsd_trails.proofs.Runs.{splits}
 use Rattle.vsd_trails.proofs.Loads.{one_load, nothing_run}
 
 -- ---- one probe

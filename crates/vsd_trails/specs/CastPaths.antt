@@ -3,7 +3,7 @@ use Rattle.std.specs.Prelude.{◌≡◌, ◌⊎◌, ℕ, ◌<◌, Bool, true, fa
 use Rattle.vsd_words.specs.declared.handle.Handle.{Handle}
 use Rattle.vsd_words.specs.Hash.{home_of}
 use Rattle.vsd_rule.specs.declared.step.Act.{Act}
-use Rattle.vsd_rule.specs.declared.step.Act.TheVariants.{LoadVersion, LoadSource, LoadCast, LoadVersionAgain, LoadRegion, LoadHandle}
+use Rattle.vsd_rule.specs.declared.step.Act.TheVariants.{LoadVersion, LoadSource, LoadCast, LoadVersionAgain, LoadRegion}
 use Rattle.vsd_rule.specs.RowSteps.{unpacked_handle}
 use Rattle.vsd_trails.specs.declared.answers.CastAnswer.{CastAnswer}
 use Rattle.vsd_trails.specs.declared.answers.Unloaded.{Unloaded}
