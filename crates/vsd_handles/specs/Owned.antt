@@ -5,4 +5,4 @@ use Rattle.vsd_table.specs.Seating.{view_of}
 
 -- the words are those that the hand's view knows of its 64 rows
 abbrev pub AreWordsOf : List HandleWord → Hand → Type 0
-AreWordsOf words hand = words ≡ (view_of hand.seated).naming.owned
+AreWordsOf words hand = words ≡ (view_of hand.seated).handles.owned

@@ -1,4 +1,7 @@
+pub mod Kept
 pub mod Powers
-pub mod Allowed
+pub mod HandleWords
+pub mod EpochWords
+pub mod RowWords
 pub mod Seats
 pub mod Laid

@@ -1,3 +1,7 @@
-pub mod Places
-pub mod Plays
+pub mod Offsets
+pub mod StepKind
+pub mod HandleKinds
+pub mod EpochKinds
+pub mod RowKinds
 pub mod Seating
+pub mod Stepping

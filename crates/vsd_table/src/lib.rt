@@ -3,16 +3,22 @@
 //! says exactly what it makes of its seat's view, and takes no memory.
 #![tactic(auto)]
 
+mod epoch_kinds;
+mod handle_kinds;
 mod handles;
+mod offsets;
 mod opening;
-mod places;
-mod plays;
+mod pinning;
+mod row_kinds;
+mod rows;
 mod seated;
 mod shared;
+mod step_kind;
+mod stepping;
 #[cfg(test)]
 mod tests;
 
 pub use opening::layout;
 pub use seated::Seated;
 pub use shared::Shared;
-pub use vsd_rule::{Doing, Resolver, Sizes};
+pub use vsd_rule::{Doing, Resolver, RowWord, Sizes};

@@ -1,17 +1,18 @@
 ghost use Rattle.std.specs.Prelude.{◌≡◌, ◌+◌, ◌<◌};
 ghost use Rattle.vsd_rule.specs.Sizes.{LawfulSizes};
-ghost use Rattle.vsd_rule.specs.Layout.{word_count, handles_from, handle_rows};
-ghost use Rattle.vsd_table.specs.Places.{ArePlaces, SameSizes};
+ghost use Rattle.vsd_rule.specs.Layout.{word_count, pin_at, row_word_at, handles_from, handle_rows};
+ghost use Rattle.vsd_rule.specs.RowSteps.{offset_of};
+ghost use Rattle.vsd_table.specs.Offsets.{AreOffsets, SameSizes};
 
-use crate::places::Places;
+use crate::offsets::Offsets;
 use atomic_table::{Table, TableRule};
 use std::alloc::Global;
-use vsd_rule::{Key, Sizes, View};
+use vsd_rule::{Key, RowWord, Sizes, View};
 
 /// The rule of `vsd_rule`, as the rule of a table.
-pub(crate) struct Order;
+pub(crate) struct SharedRule;
 
-impl TableRule<(), View, Key> for Order {
+impl TableRule<(), View, Key> for SharedRule {
     ghost use Rattle.vsd_rule.specs.Rule.{Rule};
     ghost use Rattle.vsd_rule.specs.Moves.{root_view};
 
@@ -23,14 +24,14 @@ impl TableRule<(), View, Key> for Order {
 /// The words that all callers share, with their sizes. The rule on them holds between any two steps.
 #[derive(Drop)]
 pub struct Shared {
-    pub(crate) table: Table<(), View, Key, Order, Global>,
+    pub(crate) table: Table<(), View, Key, SharedRule, Global>,
     pub(crate) sizes: Sizes,
-    pub(crate) places: Places,
+    pub(crate) offsets: Offsets,
     ghost lawful: { LawfulSizes sizes },
-    ghost told: { SameSizes sizes table.shared.key.sizes },
+    ghost known: { SameSizes sizes table.shared.key.sizes },
     ghost counted: { table.shared.table_id.words ≡ word_count sizes },
-    ghost placed: { ArePlaces places sizes },
-    ghost few: { places.end < 33000 },
+    ghost located: { AreOffsets offsets sizes },
+    ghost few: { offsets.end < 33000 },
 }
 
 impl Shared {
@@ -38,19 +39,53 @@ impl Shared {
 
     /// The sizes that the table was laid out with.
     pub fn sizes(&self) -> Sizes
-        ensures told { result ≡ (key_of self.now).sizes }
+        ensures known { result ≡ (key_of self.now).sizes }
         ensures lawful { LawfulSizes result }
     {
         self.sizes
     }
 
-    /// Where the word of a row of handles lies.
+    /// Where a caller's epoch word lies.
     #[inline]
-    pub(crate) fn handle_place(&self, row: u16) -> usize
-        requires { row < handle_rows (key_of self.now).sizes }
-        ensures place { result ≡ handles_from (key_of self.now).sizes + row }
+    pub(crate) fn pin_index(&self, caller: u16) -> usize
+        requires { caller < (key_of self.now).sizes.callers }
+        ensures index { result ≡ pin_at caller }
         ensures within { result < self.now.table.shared.table_id.words }
     {
-        self.places.handles + usize::from(row)
+        8 + 8 * usize::from(caller)
+    }
+
+    /// Where one of a row's four words lies.
+    #[inline]
+    pub(crate) fn row_word_index(&self, row: u16, which: RowWord) -> usize
+        requires { row < (key_of self.now).sizes.rows }
+        ensures index { result ≡ row_word_at (key_of self.now).sizes row (offset_of which) }
+        ensures within { result < self.now.table.shared.table_id.words }
+    {
+        self.offsets.rows + (4 * usize::from(row) + offset_of(which))
+    }
+
+    /// Where the word of a row of handles lies.
+    #[inline]
+    pub(crate) fn handle_index(&self, row: u16) -> usize
+        requires { row < handle_rows (key_of self.now).sizes }
+        ensures index { result ≡ handles_from (key_of self.now).sizes + row }
+        ensures within { result < self.now.table.shared.table_id.words }
+    {
+        self.offsets.handles + usize::from(row)
+    }
+}
+
+/// Which of a row's four words it is.
+#[inline]
+fn offset_of(which: RowWord) -> usize
+    ensures value { result ≡ offset_of which }
+    ensures few { result < 4 }
+{
+    match which {
+        RowWord::Claim => 0,
+        RowWord::Handle => 1,
+        RowWord::Token => 2,
+        RowWord::Target => 3,
     }
 }
