@@ -4,3 +4,4 @@ pub mod HandleWords
 pub mod EpochWords
 pub mod Seats
 pub mod Laid
+pub mod CastWords

@@ -4,3 +4,4 @@ pub mod HandleKinds
 pub mod EpochKinds
 pub mod Seating
 pub mod Stepping
+pub mod CastKinds

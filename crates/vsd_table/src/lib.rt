@@ -3,6 +3,8 @@
 //! says exactly what it makes of its seat's view, and takes no memory.
 #![tactic(auto)]
 
+mod cast_kinds;
+mod casts;
 mod epoch_kinds;
 mod handle_kinds;
 mod handles;
