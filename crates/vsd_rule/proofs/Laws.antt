@@ -30,12 +30,12 @@ use Rattle.vsd_rule.specs.Facts.{Knows}
 use Rattle.vsd_rule.proofs.Steps.{binding_of_known}
 
 -- an evidence that a list has is one of the rule's
-evidence_there : (k : Key) (gen : ℕ → ℕ) (name : ℕ → ℕ → ℕ) (xs : List Evidence) → AreEvidences k gen name xs → (i : ℕ) (x : Evidence) → get_elem? xs i ≡ some x → Agrees k gen name x.handle x.token x.target
+pub evidence_there : (k : Key) (gen : ℕ → ℕ) (name : ℕ → ℕ → ℕ) (xs : List Evidence) → AreEvidences k gen name xs → (i : ℕ) (x : Evidence) → get_elem? xs i ≡ some x → Agrees k gen name x.handle x.token x.target
 evidence_there k gen name [] all i x is = absurd (some-ne-none x (sym is))
 evidence_there k gen name (y ∷ ys) all zero x is = subst (λ (e : Evidence). Agrees k gen name e.handle e.token e.target) (some-injective y x is) all.0
 evidence_there k gen name (y ∷ ys) all (suc i) x is = evidence_there k gen name ys all.1 i x is
 
-cast_evidence_there : (k : Key) (gen : ℕ → ℕ) (name : ℕ → ℕ → ℕ) (xs : List CastEvidence) → AreCastEvidences k gen name xs → (i : ℕ) (x : CastEvidence) → get_elem? xs i ≡ some x → CastAgrees k gen name x.source x.target x.yes
+pub cast_evidence_there : (k : Key) (gen : ℕ → ℕ) (name : ℕ → ℕ → ℕ) (xs : List CastEvidence) → AreCastEvidences k gen name xs → (i : ℕ) (x : CastEvidence) → get_elem? xs i ≡ some x → CastAgrees k gen name x.source x.target x.yes
 cast_evidence_there k gen name [] all i x is = absurd (some-ne-none x (sym is))
 cast_evidence_there k gen name (y ∷ ys) all zero x is = subst (λ (e : CastEvidence). CastAgrees k gen name e.source e.target e.yes) (some-injective y x is) all.0
 cast_evidence_there k gen name (y ∷ ys) all (suc i) x is = cast_evidence_there k gen name ys all.1 i x is

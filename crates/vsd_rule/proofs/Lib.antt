@@ -18,4 +18,7 @@ pub mod RowLimbo
 pub mod CastLooks
 pub mod CastWrites
 pub mod RuleByRows
+pub mod RuleByClaims
+pub mod RuleByCells
+pub mod RuleByLimbo
 pub mod RuleByCasts

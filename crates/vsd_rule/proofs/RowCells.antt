@@ -16,16 +16,12 @@ use Rattle.vsd_rule.specs.declared.row_view.Keeping.{Keeping}
 use Rattle.vsd_rule.specs.declared.row_view.Keeping.TheVariants.{Elsewhere, Private, Unlinked, Retired}
 use Rattle.vsd_rule.specs.Lists.{site_token}
 use Rattle.vsd_rule.specs.Rows.{RowSeat, Rows, Row, RowState, Content, free, in_cell, in_bucket, kept, TrueWords, IsRetired, WasPublished, Agrees, keeping_of}
-use Rattle.vsd_rule.specs.RowSteps.{keeps_row}
+use Rattle.vsd_rule.specs.RowSteps.{keeps_row, all_words}
 use Rattle.vsd_rule.proofs.Points.{put, put_here, put_else}
 use Rattle.vsd_rule.proofs.RowFrames.{CellPart, BucketPart, cells_of, buckets_of, limbo_state, rows_after}
 use Rattle.vsd_rule.proofs.RowMoves.{Moves, keeping_here, keeping_else, there_below, untouched_same, waits_still, state', content', rows_moved, keeper_moved, others_moved, mine_moved, cells_still, buckets_still}
 use Rattle.vsd_rule.proofs.RowPins.{sweeps_still, seen_before, rehold_keeps}
 use Rattle.vsd_rule.proofs.RowClaims.{state_private, fresh_moves}
-
--- with all three words known
-abbrev pub all_words : Handle → ℕ → ℕ → KnownWords
-all_words h token target = record { handle = Some h; token = Some token; target = Some target }
 
 module _ (k : Key) {gen : ℕ → ℕ} {name : ℕ → ℕ → ℕ} {epoch : ℕ} {pins cells words buckets : List ℕ} {seats : List RowSeat} (r : Rows k gen name epoch pins cells words buckets seats) (id : ℕ) where
   -- ---- one cell or bucket changes, which named at most this row and names at most it

@@ -4,7 +4,7 @@ use Rattle.std.proofs.lemmas.List.{map-set}
 use Rattle.std.specs.Prelude.{IfSome}
 use mathlib.Core.Option.{some}
 use lib.ListN.{get_elem?}
-use Rattle.atomic_table.proofs.Lists.{at_set, at_map}
+use Rattle.atomic_table.proofs.Lists.{at_set, set_again, at_map}
 use Rattle.vsd_rule.specs.declared.key.Key.{Key}
 use Rattle.vsd_rule.specs.declared.row_view.RowView.{RowView}
 use Rattle.vsd_rule.specs.declared.step.Act.{Act}
@@ -85,6 +85,10 @@ module _ (k : Key) (words : List ℕ) (views : List View) (r : Rule k words view
         casts = subst (Casts k w.gen w.name z.region z.casts) (sym (unseen_set cast_view views id v v' at refl)) w.casts;
       }
 
+  -- where the seat knows nothing new
+  pub rows_still : RowsAre (row_zones z) v.rows
+  rows_still = subst (Rows k w.gen w.name z.epoch z.pins z.cells z.rows z.buckets) (sym (set_again seats id d at_row_seat)) w.rows
+
   -- a step that changes no word
   pub by_rows : (rows : RowView) (act : Act) (found : ℕ) → RowsAre (row_zones z) rows → Rule k words (set views id (after_rows v rows act found))
   by_rows rows act found true_rows = record { sized = r.sized; whole = whole_by_rows (row_zones z) rows act found true_rows }
@@ -105,6 +109,11 @@ module _ (k : Key) (words : List ℕ) (views : List View) (r : Rule k words view
   apart caller who seat e other there =
       apart_of k.sizes (map who_of views) w.seats id caller (at_map who_of views id v at ∙ ap some who) seat e.who other
       (sym (ap (λ (ws : List Who). get_elem? ws seat) (whos_of_rows views)) ∙ at_map (λ (d : RowSeat). d.who) seats seat e there)
+
+  -- each caller's number is in range
+  pub callers_below : (seat number : ℕ) (e : RowSeat) → get_elem? seats seat ≡ some e → e.who ≡ Caller number → number < k.sizes.callers
+  callers_below seat number e there who =
+      w.seats.in_range seat number (sym (ap (λ (ws : List Who). get_elem? ws seat) (whos_of_rows views)) ∙ (at_map (λ (d : RowSeat). d.who) seats seat e there ∙ ap some who))
 
   pub caller_below : (caller : ℕ) → v.who ≡ Caller caller → caller < k.sizes.callers
   caller_below caller who = w.seats.in_range id caller (at_map who_of views id v at ∙ ap some who)

@@ -21,6 +21,10 @@ module _ (s : Sizes) where
   abbrev pub rows_from : ℕ
   rows_from = cells_from + s.sites
 
+  -- the i-th word of a row
+  abbrev pub row_word_at : ℕ → ℕ → ℕ
+  row_word_at row i = rows_from + (4 * row + i)
+
   abbrev pub buckets_from : ℕ
   buckets_from = rows_from + 4 * s.rows
 

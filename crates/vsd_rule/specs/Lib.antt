@@ -12,5 +12,6 @@ pub mod Moves
 pub mod RowSteps
 pub mod Facts
 pub mod Evidence
+pub mod RowFacts
 pub mod Opening
 pub mod CastSteps

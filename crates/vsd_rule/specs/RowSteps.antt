@@ -32,6 +32,9 @@ keeps_row d row keeping = record d { kept = record { row = row; keeping = keepin
 abbrev pub nothing_known : KnownWords
 nothing_known = record { handle = None; token = None; target = None }
 
+abbrev pub all_words : Handle → ℕ → ℕ → KnownWords
+all_words h token target = record { handle = Some h; token = Some token; target = Some target }
+
 -- ---- the epoch, pinning
 
 abbrev pub after_epoch : View → ℕ → View
@@ -127,6 +130,13 @@ sees_target k d row target = record (sees d row (with_target target)) { evidence
 -- the handle that a word packs
 abbrev pub unpacked_handle : ℕ → Handle
 unpacked_handle word = record { row = word % 32768; generation = word / 32768 }
+
+-- which of a row's four words it is
+abbrev pub offset_of : RowWord → ℕ
+offset_of word.Claim = 0
+offset_of word.Handle = 1
+offset_of word.Token = 2
+offset_of word.Target = 3
 
 abbrev pub row_word_seen : Key → RowView → ℕ → RowWord → ℕ → RowView
 row_word_seen k d row word.Claim found = record d { cursor = next_row k row }
