@@ -1,7 +1,6 @@
 -- Each step on the epoch and on the own epoch word may be made.
-use Rattle.std.proofs.Common.{◌≡◌, ℕ, ◌+◌, Some, List, get_or, set, ap, sym, refl, ◌∙◌, subst, arith, true}
+use Rattle.std.proofs.Common.{◌≡◌, ℕ, ◌+◌, Some, get_or, set, ap, sym, refl, ◌∙◌, subst, arith, true}
 use Rattle.vsd_rule.specs.declared.key.Key.{Key}
-use Rattle.vsd_rule.specs.declared.sizes.Sizes.{Sizes}
 use Rattle.vsd_rule.specs.declared.view.View.{View}
 use Rattle.vsd_rule.specs.declared.view.Who.TheVariants.{Caller}
 use Rattle.vsd_rule.specs.Layout.{pin_at}
@@ -12,7 +11,7 @@ use Rattle.vsd_rule.specs.RowSteps.{after_epoch, after_pin, after_unpin}
 use Rattle.vsd_rule.proofs.Steps.{who_is}
 use Rattle.vsd_rule.proofs.Windows.{epoch_word}
 use Rattle.vsd_rule.proofs.RuleByRows.{epoch_small, load_epoch_keeps, pin_keeps, unpin_keeps}
-use Rattle.vsd_table.specs.EpochKinds.{load_epoch, pin, unpin, PinnedAt}
+use Rattle.vsd_table.specs.EpochKinds.{load_epoch, pin, unpin}
 use Rattle.vsd_table.specs.Seating.{key_of, view_of, Belongs}
 use Rattle.vsd_table.specs.Stepping.{MayLoad, MayStore}
 use Rattle.vsd_table.specs.declared.shared.Shared.{Shared}

@@ -8,3 +8,4 @@ pub mod BucketWords
 pub mod LimboWords
 pub mod Seats
 pub mod Laid
+pub mod CastWords

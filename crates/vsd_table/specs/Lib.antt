@@ -8,3 +8,4 @@ pub mod BucketKinds
 pub mod LimboKinds
 pub mod Seating
 pub mod Stepping
+pub mod CastKinds

@@ -5,6 +5,8 @@
 
 mod bucket_kinds;
 mod buckets;
+mod cast_kinds;
+mod casts;
 mod cell_kinds;
 mod cells;
 mod epoch_kinds;

@@ -23,7 +23,6 @@ impl Seated {
         ensures seat { Belongs table.now self.new }
         ensures small { result ≤ 2 ^ 62 }
     {
-        let _entering = row;
         self.load::<EpochToRetire>(table, 0)
     }
 

@@ -6,7 +6,7 @@ ghost use Rattle.vsd_table.specs.Seating.{view_of, Belongs, Becomes, BecomesDoin
 use crate::epoch_kinds::{LoadEpoch, Pin, Unpin};
 use crate::seated::Seated;
 use crate::shared::Shared;
-use vsd_rule::Doing;
+use vsd_rule::{Begins, Doing};
 
 impl Seated {
     /// Loads the epoch, and begins this operation. `Doing::Nothing` begins none.
@@ -18,7 +18,7 @@ impl Seated {
         ensures small { result ≤ 2 ^ 62 }
     {
         let found = self.load::<LoadEpoch>(table, 0);
-        self.begun = self.begun.and(&doing);
+        self.begun = self.begun.and(&Begins::Operation(doing));
         found
     }
 

@@ -1,8 +1,8 @@
-ghost use Rattle.std.specs.Prelude.{◌≡◌, ◌+◌, ◌<◌, ◌≤◌, IfSome};
+ghost use Rattle.std.specs.Prelude.{◌≡◌, ◌+◌, ◌*◌, ◌^◌, ◌<◌, ◌≤◌, IfSome};
 ghost use Rattle.vsd_words.specs.declared.cell_word.CellWord.TheVariants.{Dispatch};
 ghost use Rattle.vsd_words.specs.CellWord.{packed_cell};
 ghost use Rattle.vsd_rule.specs.Sizes.{LawfulSizes};
-ghost use Rattle.vsd_rule.specs.Layout.{word_count, pin_at, counts_from, cells_from, buckets_from, row_word_at, handles_from, handle_rows};
+ghost use Rattle.vsd_rule.specs.Layout.{word_count, pin_at, counts_from, cells_from, buckets_from, row_word_at, handles_from, handle_rows, region_at, casts_from, cast_row};
 ghost use Rattle.vsd_rule.specs.RowSteps.{offset_of, packed_bucket};
 ghost use Rattle.vsd_table.specs.Offsets.{AreOffsets, SameSizes};
 
@@ -127,6 +127,38 @@ impl Shared {
     {
         self.offsets.handles + usize::from(row)
     }
+
+    /// Where the region in use lies.
+    #[inline]
+    pub(crate) fn region_index(&self) -> usize
+        ensures index { result ≡ region_at (key_of self.now).sizes }
+        ensures within { result < self.now.table.shared.table_id.words }
+        ensures few { (key_of self.now).sizes.regions ≤ 6 }
+    {
+        self.offsets.region
+    }
+
+    /// Where the version of a cast row lies. Its source and its cast word lie next to it.
+    #[inline]
+    pub(crate) fn cast_index(&self, region: u16, row: u32) -> usize
+        requires region { region < (key_of self.now).sizes.regions }
+        requires row { row < 128 * 2 ^ region }
+        ensures index { result ≡ casts_from (key_of self.now).sizes + 3 * cast_row region row }
+        ensures within { result + 2 < self.now.table.shared.table_id.words }
+    {
+        self.offsets.casts + 3 * cast_row(region, row)
+    }
+}
+
+/// The number of a cast row, counted over all regions.
+#[inline]
+#[tactic(auto, using(crate::proofs::Powers::few_regions), unfolding(vsd_rule::specs::Layout::cast_row))]
+fn cast_row(region: u16, row: u32) -> usize
+    requires { region < 6 }
+    ensures number { result ≡ cast_row region row }
+    ensures few { result < 8192 + row }
+{
+    128 * ((1 << region) - 1) + row as usize
 }
 
 /// Which of a row's four words it is.
