@@ -118,7 +118,7 @@ impl Shared {
         self.offsets.rows + (4 * usize::from(row) + offset_of(which))
     }
 
-    /// Where the word of a row of handles lies.
+    /// Where the word of a handle row lies.
     #[inline]
     pub(crate) fn handle_index(&self, row: u16) -> usize
         requires { row < handle_rows (key_of self.now).sizes }
