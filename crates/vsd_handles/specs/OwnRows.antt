@@ -1,4 +1,4 @@
--- A caller's own 64 rows of handles, and what it knows of their words.
+-- A caller's own 64 handle rows, and what it knows of their words.
 use Rattle.std.specs.Prelude.{◌≡◌, ℕ, ◌+◌, ◌&&◌, ◌==◌, Bool, true, not, nat_lt, Some, position, replicate}
 use Rattle.vsd_words.specs.declared.handle.Handle.{Handle}
 use Rattle.vsd_words.specs.declared.handle_word.HandleWord.{HandleWord}

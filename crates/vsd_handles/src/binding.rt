@@ -14,7 +14,7 @@ use vsd_words::{Handle, HandleWord};
 
 /// None of the caller's 64 rows can be bound: each is live or worn out.
 #[derive(Clone, Copy, PartialEq, Eq, Debug, Error)]
-#[error("none of the caller's 64 rows of handles can be bound")]
+#[error("none of the caller's 64 handle rows can be bound")]
 pub struct HandlesFull;
 
 /// Binds the lowest of the caller's rows that is neither live nor worn out to type `t`, and raises

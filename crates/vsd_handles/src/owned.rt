@@ -15,7 +15,7 @@ const BLANK: HandleWord = HandleWord {
     live: false,
 };
 
-/// The words of the caller's own 64 rows of handles, as the caller last stored them. Contracts see
+/// The words of the caller's own 64 handle rows, as the caller last stored them. Contracts see
 /// the list of them.
 #[derive(Drop)]
 pub struct Owned {

@@ -1,5 +1,5 @@
 -- What each step on a cell, a counter or a bucket keeps of the whole rule.
-use Rattle.std.proofs.Common.{◌≡◌, ◌≢◌, ℕ, ◌+◌, ◌<◌, Bool, false, true, cond, List, [], ◌∷◌, Option, Some, None, length, map, get_or, set, ap, sym, refl, ◌∙◌, subst, arith, eq-eqb, ne_eqb}
+use Rattle.std.proofs.Common.{◌≡◌, ◌≢◌, ℕ, zero, suc, ◌+◌, ◌<◌, ◌≤◌, Bool, cond, List, Option, Some, None, length, map, get_or, set, ap, sym, refl, ◌∙◌, subst, arith, eq-eqb, ne_eqb}
 use Rattle.std.specs.Prelude.{nat_eq}
 use Rattle.std.proofs.lemmas.List.{set-get_or}
 use mathlib.Core.Option.{some}
@@ -10,7 +10,6 @@ use Rattle.vsd_words.specs.declared.cell_word.CellWord.TheVariants.{Lookup, Reso
 use Rattle.vsd_words.specs.CellWord.{packed_cell, IsCellPacking}
 use Rattle.vsd_words.proofs.Packings.{packed_cell-one_to_one}
 use Rattle.vsd_rule.specs.declared.key.Key.{Key}
-use Rattle.vsd_rule.specs.declared.row_view.KnownWords.{KnownWords}
 use Rattle.vsd_rule.specs.declared.row_view.Keeping.TheVariants.{Elsewhere, Private, Unlinked}
 use Rattle.vsd_rule.specs.declared.row_view.RowView.{RowView}
 use Rattle.vsd_rule.specs.declared.step.Act.{Act}
@@ -56,6 +55,10 @@ module _ (k : Key) (words : List ℕ) (views : List View) (r : Rule k words view
         → Rule k (set words (cells_from k.sizes + site) x) (set views id (after_rows v rows' act n))
     by_cell x rows' act n kept = by.by_write k words views r id v at (cells_from k.sizes + site) x (record (by.row_zones z) { cells = set z.cells site x }) rows' act n (cell_written k.sizes words site x small) kept
 
+    -- a row that the cell names is one of the table's
+    pub cell_in_table : (row : ℕ) → rows.cell_word site ≡ Dispatch row → row < k.sizes.rows
+    cell_in_table row is = (rows.cell_names site row small is).0
+
     pub load_cell_keeps : Rule k words (set views id (after_cell v site (rows.cell_word site)))
     load_cell_keeps = by.by_rows k words views r id v at (cell_seen v.rows site (rows.cell_word site)) (LoadCell site) (packed_cell (rows.cell_word site)) (go (rows.cell_word site) refl)
       where
@@ -81,7 +84,7 @@ module _ (k : Key) (words : List ℕ) (views : List View) (r : Rule k words view
           → Rule k (set words (cells_from k.sizes + site) x) (set views id (after_rows v (unlinked v.rows row (Dispatch row)) act (2 + row)))
       taken x w act is packing none = by_cell x (unlinked v.rows row (Dispatch row)) act (2 + row)
           (subst (λ (b : Bool). by.RowsAre k words views r id v at (record (by.row_zones z) { cells = set z.cells site x }) (cond b (keeps_row v.rows row Unlinked) v.rows)) (sym (eq-eqb (2 + row) (2 + row) refl))
-              (take_cell_keeps k rows id (by.d k words views r id v at) (by.at_row_seat k words views r id v at) row inside site x w below small (cell_is (Dispatch row) is) packing none))
+          (take_cell_keeps k rows id (by.d k words views r id v at) (by.at_row_seat k words views r id v at) row inside site x w below small (cell_is (Dispatch row) is) packing none))
 
       not_taken : (w : CellWord) (act : Act) → packed_cell w ≢ 2 + row → Rule k words (set views id (after_rows v (unlinked v.rows row w) act (packed_cell w)))
       not_taken w act other = nothing_keeps k words views r id v at (unlinked v.rows row w) act (packed_cell w) (ap (λ (b : Bool). cond b (keeps_row v.rows row Unlinked) v.rows) (ne_eqb (packed_cell w) (2 + row) other))
@@ -120,6 +123,14 @@ module _ (k : Key) (words : List ℕ) (views : List View) (r : Rule k words view
         → Rule k (set words (buckets_from k.sizes + bucket) x) (set views id (after_rows v rows' act n))
     by_bucket x rows' act n kept =
         by.by_write k words views r id v at (buckets_from k.sizes + bucket) x (record (by.row_zones z) { buckets = set z.buckets bucket x }) rows' act n (bucket_written k.sizes words bucket x small) kept
+
+    -- a bucket is empty or names one of the table's rows
+    pub bucket_small : in_bucket_now ≤ k.sizes.rows
+    bucket_small = go (get_or z.buckets bucket 0) refl
+      where
+        go : (n : ℕ) → get_or z.buckets bucket 0 ≡ n → in_bucket_now ≤ k.sizes.rows
+        go zero is = let same = there in omega arith
+        go (suc row) is = let inside = (rows.bucket_names bucket row small (is ∙ omega arith)).0 in let same = there in omega arith
 
     pub load_bucket_keeps : (o : Option ℕ) → in_bucket_now ≡ packed_bucket o → Rule k words (set views id (after_bucket v bucket o))
     load_bucket_keeps None is = by.by_rows k words views r id v at v.rows (LoadBucket bucket) 0 (by.rows_still k words views r id v at)
