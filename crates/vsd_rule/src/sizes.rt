@@ -1,3 +1,4 @@
+//! The sizes of a table.
 ghost use Rattle.std.specs.Prelude.{IsTrue, ◌↔◌};
 ghost use Rattle.vsd_words.specs.Hash.{IsBucketCount};
 ghost use Rattle.vsd_rule.specs.Sizes.{LawfulSizes, LawfulCounts, LawfulRows};

@@ -1,3 +1,4 @@
+//! The seats of callers.
 ghost use Rattle.std.specs.Prelude.{◌≡◌, ◌<◌, ◌≤◌, ◌+◌, true};
 ghost use Rattle.vsd_rule.specs.Layout.{first_row, handle_rows};
 ghost use Rattle.vsd_rule.specs.Facts.{SmallEpoch};

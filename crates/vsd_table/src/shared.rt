@@ -1,3 +1,4 @@
+//! The shared table under its rule.
 ghost use Rattle.std.specs.Prelude.{◌≡◌, ◌+◌, ◌*◌, ◌^◌, ◌<◌, ◌≤◌, IfSome};
 ghost use Rattle.vsd_words.specs.declared.cell_word.CellWord.TheVariants.{Dispatch};
 ghost use Rattle.vsd_words.specs.CellWord.{packed_cell};
