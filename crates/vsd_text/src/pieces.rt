@@ -1,9 +1,10 @@
 // What a text is cut into: tokens and what stands between them.
-ghost use Rattle.std.specs.Prelude.{◌≡◌, ◌≢◌, ◌+◌, ◌<◌, ◌≤◌, false, length, drop, IfOk, slice_index};
+ghost use Rattle.std.specs.Prelude.{◌≡◌, ◌≢◌, ◌+◌, ◌<◌, ◌≤◌, false, length, drop, IfOk, IsTrue, slice_index};
 ghost use Rattle.std.specs.List.{prefix_len};
-ghost use Rattle.vsd_text.specs.Tokens.{run_kind, first_piece, twin_or_symbol, slash_piece, closed_by, text_len, comment_len};
+ghost use Rattle.vsd_text.specs.Bytes.{is_run_byte, is_opening};
+ghost use Rattle.vsd_text.specs.Tokens.{first_piece, twin_or_symbol, slash_piece, closed_by, text_len, comment_len};
 
-use crate::bytes::{ByteTest, LineByte, QuotedByte, RunByte, is_digit, is_printable, is_separator};
+use crate::bytes::{ByteTest, LineByte, QuotedByte, RunByte};
 use crate::tokens::{LexError, TokenKind};
 
 /// A token, or bytes between tokens, at a place of a text.
@@ -22,7 +23,7 @@ impl Piece {
         Piece { kind: None, more }
     }
 
-    fn token(kind: TokenKind, more: usize) -> Piece
+    pub(crate) fn token(kind: TokenKind, more: usize) -> Piece
         ensures { result ≡ record { kind = Some kind; more = more } }
     {
         Piece {
@@ -45,15 +46,13 @@ fn passing_len<T: ByteTest>(text: &[u8], at: usize) -> usize
     end - at
 }
 
-// What a run is that begins with this byte.
-fn run_kind(byte: u8) -> TokenKind
-    ensures { result ≡ run_kind byte }
+/// The run of letters and digits that begins at `at`, as a token of this kind.
+pub(crate) fn run_at(text: &[u8], at: usize, kind: TokenKind) -> Piece
+    requires { at < length text.now }
+    ensures exact { result ≡ record { kind = Some kind; more = prefix_len is_run_byte (drop (at + 1) text.now) } }
+    ensures inside { at + result.more < length text.now }
 {
-    if is_digit(byte) {
-        TokenKind::Number
-    } else {
-        TokenKind::Word
-    }
+    Piece::token(kind, passing_len::<RunByte>(text, at + 1))
 }
 
 // How many bytes the one at `at` takes in a Text token: a backslash takes the next one along.
@@ -165,37 +164,25 @@ fn twin_or_symbol(text: &[u8], at: usize, twin: TokenKind) -> Piece
     }
 }
 
-/// The piece that begins at `at`, which is on this line.
-#[tactic(auto, unfolding(crate::specs::Tokens::first_piece))]
-pub(crate) fn piece_at(text: &[u8], at: usize, line: u32) -> Result<Piece, LexError>
-    requires { at < length text.now }
+/// The piece that begins with the quote, `/`, `:` or `%` at `at`, which is on this line.
+#[tactic(auto, unfolding(crate::specs::Tokens::first_piece, crate::specs::Bytes::is_opening, crate::specs::Bytes::is_run_byte, crate::specs::Bytes::is_letter, crate::specs::Bytes::is_digit, crate::specs::Bytes::is_separator))]
+pub(crate) fn opened_at(text: &[u8], at: usize, line: u32) -> Result<Piece, LexError>
+    requires in_range { at < length text.now }
+    requires opens { IsTrue (is_opening (slice_index text.now at)) }
     ensures exact { result ≡ first_piece line (slice_index text.now at) (drop (at + 1) text.now) }
     ensures inside { IfOk result (λ piece. at + piece.more < length text.now) }
 {
-    let byte = text[at];
-    if RunByte::passes(byte) {
-        Ok(Piece::token(run_kind(byte), passing_len::<RunByte>(text, at + 1)))
-    } else if is_separator(byte) {
-        Ok(Piece::gap(0))
-    } else if byte == b'\'' {
-        quote_at(
+    match text[at] {
+        b'\'' => quote_at(
             text,
             at,
             passing_len::<QuotedByte>(text, at + 1),
             TokenKind::Quoted,
             line,
-        )
-    } else if byte == b'"' {
-        quote_at(text, at, text_len(text, at + 1), TokenKind::Text, line)
-    } else if byte == b'/' {
-        slash_at(text, at, line)
-    } else if byte == b':' {
-        Ok(twin_or_symbol(text, at, TokenKind::Colons))
-    } else if byte == b'%' {
-        Ok(twin_or_symbol(text, at, TokenKind::Percents))
-    } else if is_printable(byte) {
-        Ok(Piece::token(TokenKind::Symbol(byte), 0))
-    } else {
-        Err(LexError::BadByte { line })
+        ),
+        b'"' => quote_at(text, at, text_len(text, at + 1), TokenKind::Text, line),
+        b'/' => slash_at(text, at, line),
+        b':' => Ok(twin_or_symbol(text, at, TokenKind::Colons)),
+        _ => Ok(twin_or_symbol(text, at, TokenKind::Percents)),
     }
 }
