@@ -3,7 +3,7 @@ use Rattle.std.proofs.Common.{◌≡◌, ℕ, List, [], ◌∷◌, true, false, 
 use Rattle.std.specs.List.{prefix_len}
 use Rattle.std.proofs.lemmas.Bool.{and_parts, not-true}
 use Rattle.std.proofs.lemmas.Bool.Decides.{nat_tests}
-use Rattle.vsd_text.specs.Bytes.{is_separator, is_line_feed, is_run_byte, is_printable, is_opening, is_of_class}
+use Rattle.vsd_text.specs.Bytes.{is_separator, is_line_feed, is_run_byte, is_printable, is_twin, is_opening, is_of_class}
 use Rattle.vsd_text.specs.Tokens.{first_piece, token_piece, gap_piece, line_feeds}
 use Rattle.vsd_text.specs.declared.bytes.ByteClass.TheVariants.{Letter, Digit, Symbol, Space, LineFeed, Bad}
 use Rattle.vsd_text.specs.declared.tokens.TokenKind.TheVariants.{Word, Number, Symbol as OneByte}
@@ -21,6 +21,7 @@ digit_piece line b bs is = rw (digit_runs b is, is) refl
 record IsLoneSymbol (b : ℕ) : Type 0 where
   printable : is_printable b ≡ true
   no_run : is_run_byte b ≡ false
+  no_twin : is_twin b ≡ false
   no_opening : is_opening b ≡ false
 
 lone_symbol : (b : ℕ) → is_of_class Symbol b ≡ true → IsLoneSymbol b
@@ -28,18 +29,19 @@ unfolding is_of_class
 lone_symbol b is = record {
   printable = grind (arith, nat_tests);
   no_run = grind (arith, nat_tests);
+  no_twin = grind (arith, nat_tests);
   no_opening = grind (arith, nat_tests);
 }
 
 pub symbol_piece : (line b : ℕ) (bs : List ℕ) → is_of_class Symbol b ≡ true → first_piece line b bs ≡ token_piece (OneByte b) 0
-unfolding first_piece is_opening
+unfolding first_piece is_twin is_opening
 symbol_piece line b bs is =
     let sign = lone_symbol b is in
     let no_quote : eqb b 39 ≡ false = grind (arith, nat_tests, sign.no_opening) in
     let no_text : eqb b 34 ≡ false = grind (arith, nat_tests, sign.no_opening) in
     let no_slash : eqb b 47 ≡ false = grind (arith, nat_tests, sign.no_opening) in
-    let no_colon : eqb b 58 ≡ false = grind (arith, nat_tests, sign.no_opening) in
-    let no_percent : eqb b 37 ≡ false = grind (arith, nat_tests, sign.no_opening) in
+    let no_colon : eqb b 58 ≡ false = grind (arith, nat_tests, sign.no_twin) in
+    let no_percent : eqb b 37 ≡ false = grind (arith, nat_tests, sign.no_twin) in
     rw (sign.no_run, printable_is_no_separator b sign.printable, no_quote, no_text, no_slash, no_colon, no_percent, sign.printable) refl
 
 separator_piece : (line b : ℕ) (bs : List ℕ) → is_separator b ≡ true → first_piece line b bs ≡ gap_piece 0

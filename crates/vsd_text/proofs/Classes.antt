@@ -2,9 +2,9 @@
 use Rattle.std.proofs.Common.{◌≡◌, ℕ, true, false, refl, sym, ◌∙◌, ⊎_elim, arith}
 use Rattle.std.proofs.lemmas.Bool.Decides.{nat_tests}
 use Rattle.std.proofs.lemmas.Bool.{or_cases, or_left, or_right, false_from_ne_true, true≢false}
-use Rattle.vsd_text.specs.Bytes.{is_separator, is_line_feed, is_digit, is_letter, is_run_byte, is_printable, is_opening, is_of_class}
+use Rattle.vsd_text.specs.Bytes.{is_separator, is_line_feed, is_digit, is_letter, is_run_byte, is_printable, is_twin, is_opening, is_of_class}
 use Rattle.vsd_text.specs.declared.bytes.ByteClass.{ByteClass}
-use Rattle.vsd_text.specs.declared.bytes.ByteClass.TheVariants.{Letter, Digit, Symbol, Space, LineFeed, Opening, Bad}
+use Rattle.vsd_text.specs.declared.bytes.ByteClass.TheVariants.{Letter, Digit, Symbol, Space, LineFeed, Twin, Opening, Bad}
 
 pub letter_runs : (b : ℕ) → is_letter b ≡ true → is_run_byte b ≡ true
 unfolding is_run_byte
@@ -46,6 +46,10 @@ pub line_feed_is_separator : (b : ℕ) → is_line_feed b ≡ true → is_separa
 unfolding is_separator is_line_feed
 line_feed_is_separator b feeds = grind (arith, nat_tests)
 
+twin_is_no_run_byte : (b : ℕ) → is_twin b ≡ true → is_run_byte b ≡ false
+unfolding is_twin is_run_byte is_letter is_digit
+twin_is_no_run_byte b twin = grind (arith, nat_tests)
+
 opening_is_no_run_byte : (b : ℕ) → is_opening b ≡ true → is_run_byte b ≡ false
 unfolding is_opening is_run_byte is_letter is_digit
 opening_is_no_run_byte b opens = grind (arith, nat_tests)
@@ -58,5 +62,6 @@ no_run_by_class Digit b is no_letter no_digit = absurd (no_digit refl)
 no_run_by_class Symbol b is no_letter no_digit = grind (arith, nat_tests)
 no_run_by_class Space b is no_letter no_digit = grind (arith, nat_tests, separator_is_no_run_byte)
 no_run_by_class LineFeed b is no_letter no_digit = grind (arith, nat_tests, separator_is_no_run_byte, line_feed_is_separator)
+no_run_by_class Twin b is no_letter no_digit = twin_is_no_run_byte b is
 no_run_by_class Opening b is no_letter no_digit = opening_is_no_run_byte b is
 no_run_by_class Bad b is no_letter no_digit = grind (arith, nat_tests, run_byte_is_printable)

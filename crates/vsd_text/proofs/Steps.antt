@@ -124,8 +124,11 @@ module _ (text : List ℕ) (tokens : List Token) (at line : ℕ) (reached : toke
   tokens_of-refused e lt is = reached ∙ ap (before tokens) (tokens_from-refused text at line e lt is)
 
   -- after a piece
-  pub tokens_of-after : (piece : Piece) → at + piece.more < length text → first_piece line (get_or text at 0) (drop (at + 1) text) ≡ Ok piece → tokens_of text ≡ before (tokens ++ tokens_at at line piece) (tokens_from (at + 1 + piece.more) (line + line_feeds (take (piece.more + 1) (drop at text))) 0 (drop (at + 1 + piece.more) text))
-  tokens_of-after piece lt is = reached ∙ ap (before tokens) (tokens_from-piece text at line piece lt is) ∙ before-before tokens _ _
+  pub tokens_of-after : (piece : Piece) → at + piece.more < length text → first_piece line (get_or text at 0) (drop (at + 1) text) ≡ Ok piece → tokens_of text ≡ before (tokens ++ tokens_at at line piece) (tokens_from (at + (1 + piece.more)) (line + line_feeds (take (piece.more + 1) (drop at text))) 0 (drop (at + (1 + piece.more)) text))
+  tokens_of-after piece lt is =
+      let there : at + 1 + piece.more ≡ at + (1 + piece.more) = omega arith in
+      reached ∙ ap (before tokens) (tokens_from-piece text at line piece lt is) ∙ before-before tokens _ _
+      ∙ ap (λ n. before (tokens ++ tokens_at at line piece) (tokens_from n (line + line_feeds (take (piece.more + 1) (drop at text))) 0 (drop n text))) there
 
 -- a piece is one token at most
 pub tokens_at-few : (at line : ℕ) (piece : Piece) → length (tokens_at at line piece) ≤ 1

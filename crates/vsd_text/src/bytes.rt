@@ -15,7 +15,9 @@ pub(crate) enum ByteClass {
     Space,
     /// Separates tokens and ends a line.
     LineFeed,
-    /// A quote, `/`, `:` or `%`: what it opens depends on the bytes after it.
+    /// `:` or `%`: a Symbol, or one token with a second such byte.
+    Twin,
+    /// A quote or `/`: what it opens depends on the bytes after it.
     Opening,
     /// Begins nothing.
     Bad,
@@ -31,6 +33,8 @@ const S: ByteClass = ByteClass::Space;
 
 const N: ByteClass = ByteClass::LineFeed;
 
+const T: ByteClass = ByteClass::Twin;
+
 const O: ByteClass = ByteClass::Opening;
 
 const B: ByteClass = ByteClass::Bad;
@@ -38,7 +42,7 @@ const B: ByteClass = ByteClass::Bad;
 // The class of each byte: a look-up is faster than the comparisons.
 static CLASSES: [ByteClass; 256] = [
     B, B, B, B, B, B, B, B, B, S, N, B, B, S, B, B, B, B, B, B, B, B, B, B, B, B, B, B, B, B, B, B,
-    S, Y, O, Y, L, O, Y, O, Y, Y, Y, Y, Y, Y, L, O, D, D, D, D, D, D, D, D, D, D, O, Y, Y, Y, Y, L,
+    S, Y, O, Y, L, T, Y, O, Y, Y, Y, Y, Y, Y, L, O, D, D, D, D, D, D, D, D, D, D, T, Y, Y, Y, Y, L,
     L, L, L, L, L, L, L, L, L, L, L, L, L, L, L, L, L, L, L, L, L, L, L, L, L, L, L, Y, Y, Y, Y, L,
     L, L, L, L, L, L, L, L, L, L, L, L, L, L, L, L, L, L, L, L, L, L, L, L, L, L, L, Y, Y, Y, Y, B,
     B, B, B, B, B, B, B, B, B, B, B, B, B, B, B, B, B, B, B, B, B, B, B, B, B, B, B, B, B, B, B, B,

@@ -4,7 +4,7 @@ ghost use Rattle.vsd_text.specs.Outcome.{Gives};
 ghost use Rattle.vsd_text.specs.Tokens.{IsPieceAt, line_feeds, mark_len, token_at, tokens_at, tokens_of, refusal_of, text_limit, LiesWithin};
 
 use crate::bytes::{ByteClass, class_of};
-use crate::pieces::{Piece, opened_at, run_at};
+use crate::pieces::{Piece, opened_at, run_at, twin_at};
 use crate::tokens::{LexError, Token, TokenKind};
 use std::alloc::Global;
 
@@ -72,23 +72,17 @@ fn token_at(at: usize, line: u32, kind: TokenKind, more: usize) -> Token
     }
 }
 
-// Adds the token, if it is one, of the piece at `at`, and tells where the next piece begins.
+// Adds the token, if it is one, of the piece at `at`.
 #[tactic(auto, unfolding(crate::specs::Tokens::tokens_at))]
-fn push_piece(
-    tokens: &mut Vec<Token>,
-    at: usize,
-    line: u32,
-    piece: Piece,
-) -> Result<usize, LexError>
+fn push_piece(tokens: &mut Vec<Token>, at: usize, line: u32, piece: Piece) -> Result<(), LexError>
     requires { at + piece.more < 2 ^ 31 }
     ensures ok { OnOk result (tokens.new.items ≡ tokens.old.items ++ tokens_at at line piece) }
-    ensures next { IfOk result (λ n. n ≡ at + 1 + piece.more) }
     ensures memory { IfErr result (λ e. e ≡ LexError.Memory) }
 {
     if let Some(kind) = piece.kind {
         tokens.push(token_at(at, line, kind, piece.more))?;
     }
-    Ok(at + 1 + piece.more)
+    Ok(())
 }
 
 /// The tokens of `text`, in its order. Letters are A to Z and a to z. A byte order mark at the very start
@@ -110,17 +104,26 @@ pub fn lex(alloc: Global, text: &[u8]) -> Result<Vec<Token>, LexError>
     let mut at = mark_len(text);
     let mut line = 1;
     while at < text.len() {
-        let byte = text[at];
-        match class_of(byte) {
+        match class_of(text[at]) {
             ByteClass::Letter => {
-                at = push_piece(&mut tokens, at, line, run_at(text, at, TokenKind::Word))?;
+                let piece = run_at(text, at, TokenKind::Word);
+                push_piece(&mut tokens, at, line, piece)?;
+                at += 1 + piece.more;
             }
             ByteClass::Digit => {
-                at = push_piece(&mut tokens, at, line, run_at(text, at, TokenKind::Number))?;
+                let piece = run_at(text, at, TokenKind::Number);
+                push_piece(&mut tokens, at, line, piece)?;
+                at += 1 + piece.more;
             }
             ByteClass::Symbol => {
-                let piece = Piece::token(TokenKind::Symbol(byte), 0);
-                at = push_piece(&mut tokens, at, line, piece)?;
+                let piece = Piece::token(TokenKind::Symbol(text[at]), 0);
+                push_piece(&mut tokens, at, line, piece)?;
+                at += 1;
+            }
+            ByteClass::Twin => {
+                let piece = twin_at(text, at);
+                push_piece(&mut tokens, at, line, piece)?;
+                at += 1 + piece.more;
             }
             ByteClass::Space => at += 1,
             ByteClass::LineFeed => {
@@ -129,9 +132,9 @@ pub fn lex(alloc: Global, text: &[u8]) -> Result<Vec<Token>, LexError>
             }
             ByteClass::Opening => {
                 let piece = opened_at(text, at, line)?;
-                let next = push_piece(&mut tokens, at, line, piece)?;
+                push_piece(&mut tokens, at, line, piece)?;
                 line += piece_line_feeds(text, at, piece);
-                at = next;
+                at += 1 + piece.more;
             }
             ByteClass::Bad => return Err(LexError::BadByte { line }),
         }

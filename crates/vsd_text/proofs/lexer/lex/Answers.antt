@@ -33,29 +33,40 @@ pub loop-at-preserved-in-Letter : goal.loop-at-preserved-in-Letter
 loop-at-preserved-in-Letter c =
     let text = c.args.text.now in
     let at = c.loop-at.at in
-    let is = c.run_at.ensures.exact in
-    let found = letter_piece c.loop-at.line (get_or text at 0) (drop (at + 1) text) c.in-Letter.ensures ∙ ap Ok (sym is) in
-    let passed = c.in_ok-at-in-Letter.ensures in
-    after_token text c.loop-at.tokens.items at c.loop-at.line c.loop-at.invariant c.run_at.result c.run_at.ensures.inside found Word _ _ (ap (λ p. p.kind) is) (λ other. cc) passed.ok passed.next
+    let line = c.loop-at.line in
+    let run = c.run_at-piece in
+    let found = letter_piece line (get_or text at 0) (drop (at + 1) text) c.in-Letter.ensures ∙ ap Ok (sym run.ensures.exact) in
+    after_token text c.loop-at.tokens.items at line c.loop-at.invariant run.result run.ensures.inside found _ (Word, (ap (λ p. p.kind) run.ensures.exact, λ other. cc)) c.in_ok-push_piece-in-Letter.ensures.ok
 
 pub loop-at-preserved-in-Digit : goal.loop-at-preserved-in-Digit
 loop-at-preserved-in-Digit c =
     let text = c.args.text.now in
     let at = c.loop-at.at in
-    let is = c.run_at-in-Digit.ensures.exact in
-    let found = digit_piece c.loop-at.line (get_or text at 0) (drop (at + 1) text) c.in-Digit.ensures ∙ ap Ok (sym is) in
-    let passed = c.in_ok-at-in-Digit.ensures in
-    after_token text c.loop-at.tokens.items at c.loop-at.line c.loop-at.invariant c.run_at-in-Digit.result c.run_at-in-Digit.ensures.inside found Number _ _ (ap (λ p. p.kind) is) (λ other. cc) passed.ok passed.next
+    let line = c.loop-at.line in
+    let run = c.run_at-piece-in-Digit in
+    let found = digit_piece line (get_or text at 0) (drop (at + 1) text) c.in-Digit.ensures ∙ ap Ok (sym run.ensures.exact) in
+    after_token text c.loop-at.tokens.items at line c.loop-at.invariant run.result run.ensures.inside found _ (Number, (ap (λ p. p.kind) run.ensures.exact, λ other. cc)) c.in_ok-push_piece-in-Digit.ensures.ok
 
 pub loop-at-preserved-in-Symbol : goal.loop-at-preserved-in-Symbol
 loop-at-preserved-in-Symbol c =
     let text = c.args.text.now in
     let at = c.loop-at.at in
+    let line = c.loop-at.line in
     let is = c.token-piece.ensures in
     let alone : c.token-piece.result.more ≡ 0 = ap (λ p. p.more) is in
-    let found = symbol_piece c.loop-at.line (get_or text at 0) (drop (at + 1) text) c.in-Symbol.ensures ∙ ap Ok (sym is) in
-    let passed = c.in_ok-at-in-Symbol.ensures in
-    after_token text c.loop-at.tokens.items at c.loop-at.line c.loop-at.invariant c.token-piece.result (omega arith) found (Symbol _) _ _ (ap (λ p. p.kind) is) (λ other. cc) passed.ok passed.next
+    let there : at + (1 + c.token-piece.result.more) ≡ at + 1 = omega arith in
+    let found = symbol_piece line (get_or text at 0) (drop (at + 1) text) c.in-Symbol.ensures ∙ ap Ok (sym is) in
+    subst (λ next. Reached text c.push_piece-in-Symbol.new.tokens.items next line) there
+    (after_token text c.loop-at.tokens.items at line c.loop-at.invariant c.token-piece.result (omega arith) found _ (Symbol _, (ap (λ p. p.kind) is, λ other. cc)) c.in_ok-push_piece-in-Symbol.ensures.ok)
+
+pub twin_at-piece-requires-clause-is_twin : goal.twin_at-piece-requires-clause-is_twin
+unfolding is_of_class
+twin_at-piece-requires-clause-is_twin c = c.in-Twin.ensures
+
+pub loop-at-preserved-in-Twin : goal.loop-at-preserved-in-Twin
+loop-at-preserved-in-Twin c =
+    let twin = c.twin_at-piece in
+    after_token c.args.text.now c.loop-at.tokens.items c.loop-at.at c.loop-at.line c.loop-at.invariant twin.result twin.ensures.inside (twin.ensures.exact c.loop-at.line) _ twin.ensures.one_line c.in_ok-push_piece-in-Twin.ensures.ok
 
 pub loop-at-preserved-in-Space : goal.loop-at-preserved-in-Space
 loop-at-preserved-in-Space c =
@@ -94,9 +105,8 @@ returns-in-Bad-clause-exact c =
 
 pub loop-at-preserved : goal.loop-at-preserved
 loop-at-preserved c =
-    let pushed = c.in_ok-next-in-Opening.ensures in
-    let opened = c.in_ok-piece-in-Opening.ensures in
-    after_piece c.args.text.now c.loop-at.tokens.items c.loop-at.at c.loop-at.line c.loop-at.invariant c.in_ok-piece-in-Opening.piece opened.inside (sym opened.exact) _ _ _ pushed.ok pushed.next c.piece_line_feeds-line.ensures
+    let opened = c.in_ok-piece-in-Opening in
+    after_piece c.args.text.now c.loop-at.tokens.items c.loop-at.at c.loop-at.line c.loop-at.invariant opened.piece opened.ensures.inside (sym opened.ensures.exact) _ _ c.in_ok-push_piece-in-Opening.ensures.ok c.piece_line_feeds-line.ensures
 
 pub returns-clause-exact : goal.returns-clause-exact
 returns-clause-exact c =
