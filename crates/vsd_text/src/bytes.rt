@@ -23,6 +23,7 @@ pub(crate) enum ByteClass {
     Bad,
 }
 
+// One letter a class, for the table.
 const L: ByteClass = ByteClass::Letter;
 
 const D: ByteClass = ByteClass::Digit;
@@ -51,6 +52,7 @@ static CLASSES: [ByteClass; 256] = [
     B, B, B, B, B, B, B, B, B, B, B, B, B, B, B, B, B, B, B, B, B, B, B, B, B, B, B, B, B, B, B, B,
 ];
 
+/// The class of the byte.
 pub(crate) fn class_of(byte: u8) -> ByteClass
     ensures { IsTrue (is_of_class result byte) }
 {
