@@ -1,9 +1,12 @@
+pub mod Keys
 pub mod Outcomes
 pub mod Bounds
 pub mod Soundness
 pub mod Keeping
 pub mod Completeness
 pub mod Consequences
+pub mod Refusals
+pub mod Results
 pub mod Places
 pub mod Ends
 pub mod Steps

@@ -2,6 +2,6 @@ pub mod Words
 pub mod Input
 pub mod Place
 pub mod Grammar
-pub mod Laws
 pub mod Productions
+pub mod Laws
 pub mod Loops

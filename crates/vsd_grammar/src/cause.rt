@@ -1,5 +1,4 @@
-// Why a list of tokens can't be read.
-use std::alloc::AllocError;
+// Why a token is refused.
 
 /// A form of ilasm that is recognised and not supported.
 #[derive(Clone, Copy, Debug, PartialEq, Eq, Drop)]
@@ -99,33 +98,4 @@ pub enum Cause {
     UnknownMethod,
     /// Another number of arguments than a declaration has parameters.
     Arity,
-}
-
-/// The first refusal of a reading. Tokens are named by their index; the number of tokens names the end.
-#[derive(Clone, Copy, Debug, PartialEq, Eq, Drop)]
-pub struct Refusal {
-    /// The token where the refusal stands.
-    pub at: usize,
-    /// The token that decided it: no token after this one was looked at.
-    pub by: usize,
-    pub cause: Cause,
-}
-
-/// Why a reading stops.
-#[derive(Clone, Copy, Debug, PartialEq, Eq, Drop)]
-pub enum Stop {
-    /// Want of memory.
-    Memory,
-    Refused(Refusal),
-}
-
-impl From<AllocError> for Stop {
-    ghost use Rattle.std.specs.Prelude.{◌≡◌};
-    ghost use Rattle.vsd_grammar.specs.declared.refusal.Stop.TheVariants.{Memory};
-
-    ghost from_gives = { λ _ stop. stop ≡ Memory };
-
-    fn from(_: AllocError) -> Stop {
-        Stop::Memory
-    }
 }
