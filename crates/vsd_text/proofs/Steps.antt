@@ -1,5 +1,5 @@
 -- One step through a text: from a piece's place to the place after it.
-use Rattle.std.proofs.Common.{◌≡◌, true, rules, ℕ, zero, suc, ◌+◌, ◌<◌, ◌≤◌, List, [], ◌∷◌, ◌++◌, length, get_or, take, drop, Option, Some, None, Result, Ok, Err, refl, sym, ap, ◌∙◌, arith, append_assoc, nat_lt, eqb}
+use Rattle.std.proofs.Common.{◌≡◌, true, ℕ, zero, suc, ◌+◌, ◌<◌, ◌≤◌, List, [], ◌∷◌, ◌++◌, length, get_or, take, drop, Option, Some, None, Result, Ok, Err, refl, sym, ap, ◌∙◌, arith, append_assoc, nat_lt, eqb}
 use Rattle.std.specs.Prelude.{All, IfSome}
 use Rattle.std.proofs.Math.Numerals.{add-one}
 use Rattle.std.proofs.lemmas.Bool.{cond_both, cond-false, eqb-true, false≢true, and_parts, le-ltb}
@@ -154,6 +154,15 @@ module _ (text : List ℕ) (tokens : List Token) (at line : ℕ) (reached : toke
       let there : at + 1 + piece.more ≡ at + (1 + piece.more) = omega arith in
       reached ∙ ap (before tokens) (tokens_from-piece text at line piece lt is) ∙ before-before tokens _ _
       ∙ ap (λ n. before (tokens ++ tokens_at at line piece) (tokens_from n (line + line_feeds (take (piece.more + 1) (drop at text))) 0 (drop n text))) there
+
+-- a piece is one token at most
+pub tokens_at-few : (at line : ℕ) (piece : Piece) → length (tokens_at at line piece) ≤ 1
+unfolding tokens_at
+tokens_at-few at line piece = by_kind piece.kind refl
+  where
+    by_kind : (kind : Option TokenKind) → piece.kind ≡ kind → length (tokens_at at line piece) ≤ 1
+    by_kind None none = rw none (omega arith)
+    by_kind (Some kind) some = rw some (omega arith)
 
 -- the token of a piece lies in the text
 pub tokens_at-inside : (text : List ℕ) (at line : ℕ) (piece : Piece) → at + piece.more < length text → first_piece line (get_or text at 0) (drop (at + 1) text) ≡ Ok piece → All (LiesWithin text) (tokens_at at line piece)

@@ -1,7 +1,7 @@
 // Cuts a text into tokens.
 ghost use Rattle.std.specs.Prelude.{◌≡◌, ◌≤◌, ◌<◌, ◌+◌, ◌^◌, [], ◌∷◌, ◌++◌, length, take, drop, IfOk, IfErr, OnOk, All};
 ghost use Rattle.vsd_text.specs.Outcome.{Gives};
-ghost use Rattle.vsd_text.specs.Tokens.{IsPieceAt, line_feeds, mark_len, token_at, tokens_at, tokens_of, refusal_of, LiesWithin};
+ghost use Rattle.vsd_text.specs.Tokens.{IsPieceAt, line_feeds, mark_len, token_at, tokens_at, tokens_of, refusal_of, text_limit, LiesWithin};
 
 use crate::bytes::is_separator;
 use crate::pieces::{Piece, piece_at};
@@ -106,6 +106,7 @@ fn push_token(tokens: &mut Vec<Token>, at: usize, line: u32, piece: Piece) -> Re
 pub fn lex(alloc: Global, text: &[u8]) -> Result<Vec<Token>, LexError>
     ensures exact { Gives (λ tokens. tokens.items) refusal_of result (tokens_of text.now) }
     ensures inside { IfOk result (λ tokens. All (LiesWithin text.now) tokens.items) }
+    ensures few { IfOk result (λ tokens. length tokens.items ≤ text_limit) }
 {
     if text.len() > TEXT_LIMIT {
         return Err(LexError::TooLong);

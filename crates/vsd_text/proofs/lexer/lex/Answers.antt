@@ -1,10 +1,11 @@
 use Rattle.std.proofs.Common.{◌<◌, ◌+◌, ◌∙◌, ◌∷◌, [], get_or, length, drop, sym, subst, arith}
 use Rattle.std.proofs.lemmas.Bool.{lt-ltb, cond-true}
 use Rattle.std.proofs.lemmas.Result.{err_from_is_err_and}
+use Rattle.std.proofs.lemmas.List.{length-append}
 use Rattle.std.proofs.lemmas.List.Elements.{All-append, All-nil}
 use Rattle.std.specs.Prelude.{All}
 use Rattle.vsd_text.specs.Tokens.{tokens_of, tokens_at, LiesWithin}
-use Rattle.vsd_text.proofs.Steps.{tokens_of-short, tokens_of-at_end, tokens_of-refused, tokens_of-after, tokens_of-after_separator, tokens_at-inside, gives_refusal}
+use Rattle.vsd_text.proofs.Steps.{tokens_of-short, tokens_of-at_end, tokens_of-refused, tokens_of-after, tokens_of-after_separator, tokens_at-inside, tokens_at-few, gives_refusal}
 use Rattle.vsd_text.proofs.LineFeeds.{line_feeds-take}
 use Rattle.vsd_text.proofs.lexer.lex.Goals as goal
 
@@ -23,6 +24,7 @@ loop-at-init c =
       few_lines = omega arith;
       same = rw (empty, mark) (tokens_of-short c.args.text.now (omega arith));
       inside = subst (All (LiesWithin c.args.text.now)) (sym empty) (All-nil (LiesWithin c.args.text.now));
+      few = rw empty (omega arith);
     }
 
 pub loop-at-preserved-then-is_separator : goal.loop-at-preserved-then-is_separator
@@ -34,6 +36,7 @@ loop-at-preserved-then-is_separator c =
       few_lines = omega (arith, feeds, line_feeds-take 1 (get_or c.args.text.now c.loop-at.at 0 ∷ []));
       same = rw feeds (tokens_of-after_separator c.args.text.now c.loop-at.tokens.items c.loop-at.at c.loop-at.line c.loop-at.invariant.same (omega arith) (sym c.is_separator.ensures ∙ c.if-is_separator.true));
       inside = c.loop-at.invariant.inside;
+      few = omega arith;
     }
 
 pub returns-in_err-piece-clause-exact : goal.returns-in_err-piece-clause-exact
@@ -58,6 +61,7 @@ loop-at-preserved c =
       few_lines = omega (arith, feeds, line_feeds-take (piece.more + 1) (drop c.loop-at.at text));
       same = rw (pushed, feeds) (tokens_of-after text c.loop-at.tokens.items c.loop-at.at c.loop-at.line c.loop-at.invariant.same piece within found);
       inside = subst (All (LiesWithin text)) (sym pushed) (All-append (LiesWithin text) c.loop-at.tokens.items (tokens_at c.loop-at.at c.loop-at.line piece) c.loop-at.invariant.inside (tokens_at-inside text c.loop-at.at c.loop-at.line piece within found));
+      few = rw pushed (omega (arith, length-append c.loop-at.tokens.items (tokens_at c.loop-at.at c.loop-at.line piece), tokens_at-few c.loop-at.at c.loop-at.line piece));
     }
 
 pub returns-clause-exact : goal.returns-clause-exact

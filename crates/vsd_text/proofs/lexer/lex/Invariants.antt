@@ -10,6 +10,7 @@ invariant-loop-at l = record {
   few_lines : l.line ≤ l.at + 1;
   same : tokens_of l.text ≡ before l.tokens.items (tokens_from l.at l.line 0 (drop l.at l.text));
   inside : All (LiesWithin l.text) l.tokens.items;
+  few : length l.tokens.items ≤ l.at;
 }
 
 abbrev pub decreases-loop-at : goal.decreases-loop-at
