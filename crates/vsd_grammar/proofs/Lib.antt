@@ -13,4 +13,5 @@ pub mod Steps
 pub mod Numbers
 pub mod ListSteps
 pub mod TurnSteps
+pub mod Pairs
 pub mod Deciding

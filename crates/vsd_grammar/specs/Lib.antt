@@ -3,5 +3,6 @@ pub mod Input
 pub mod Place
 pub mod Grammar
 pub mod Productions
+pub mod Skipping
 pub mod Laws
 pub mod Loops

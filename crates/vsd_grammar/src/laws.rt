@@ -2,6 +2,7 @@
 ghost use Rattle.vsd_grammar.specs.Grammar.{G, Decides};
 ghost use Rattle.vsd_grammar.specs.Productions.{name, numbered_name, plain_words};
 ghost use Rattle.vsd_grammar.specs.Words.{WordsHaveKeys};
+ghost use Rattle.vsd_grammar.specs.Skipping.{SkipsPairs};
 ghost use Rattle.vsd_grammar.specs.Laws.{IsSound, IsComplete, KeepsReading, KeepsRefusal, KeepsCauses, StandsInList, IsReader, GoesForward, IsDead, IsUnambiguous};
 ghost use Rattle.vsd_grammar.specs.declared.token_class.TokenClass.{TokenClass};
 ghost use Rattle.std.specs.Prelude.{Bool};
@@ -16,6 +17,11 @@ pub fn names_are_decided()
     ensures names { (F : TokenClass → Bool) → Decides _ name F }
     ensures numbers { (F : TokenClass → Bool) → Decides _ numbered_name F }
     ensures words { (F : TokenClass → Bool) → Decides _ plain_words F }
+{}
+
+/// What is passed over are tokens with their braces in pairs, up to the first token that ends it, and nothing else is.
+pub fn skips_pairs()
+    ensures { SkipsPairs }
 {}
 
 /// A grammar of which the laws speak: its production, and the tokens that may stand after it.

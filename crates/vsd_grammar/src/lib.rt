@@ -7,6 +7,7 @@ mod keyword;
 mod laws;
 mod loops;
 mod naming;
+mod skipping;
 mod syntax_error;
 #[cfg(test)]
 mod tests;
@@ -18,10 +19,11 @@ pub use cursor::{Cursor, line_of, same_keyword, same_class};
 pub use keyword::{Keyword, keyword_of};
 pub use laws::{
     Production, complete, dead, goes_forward, keeps_causes, keeps_reading, keeps_refusal,
-    names_are_decided, reads_well, sound, stands_in_list, unambiguous, words_have_keys,
+    names_are_decided, reads_well, skips_pairs, sound, stands_in_list, unambiguous, words_have_keys,
 };
 pub use loops::{scan, separated, until};
 pub use naming::{is_name, name, numbered_name, plain_words, spelled_name};
+pub use skipping::skip;
 pub use syntax_error::{Stop, SyntaxError};
 pub use token_class::TokenClass;
 pub use turn::Turn;
