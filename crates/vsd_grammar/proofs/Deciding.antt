@@ -6,7 +6,7 @@ use Rattle.vsd_grammar.specs.declared.turn.Turn.TheVariants as turn
 use Rattle.vsd_grammar.specs.declared.cause.Cause.{Cause}
 use Rattle.vsd_grammar.specs.Input.{Input, class_at, same_class}
 use Rattle.vsd_grammar.specs.Grammar.{Derives, Decides}
-use Rattle.vsd_grammar.specs.Productions.{expected, expect, eaten, eat, no_nodes, node, number, checked, scan_step, scan, is_name, name_by, spelled_name, then_pass, name, numbered_name, plain_turn, plain_words}
+use Rattle.vsd_grammar.specs.Productions.{expected, expect, required, must_see, node_counted, node_at, eaten, eat, no_nodes, node, number, checked, scan_step, scan, is_name, name_by, spelled_name, then_pass, name, numbered_name, plain_turn, plain_words}
 
 -- any token may follow
 abbrev pub anything : TokenClass → Bool
@@ -26,6 +26,22 @@ decides_eat wanted F = (anything, tt, λ h. (go (same_class wanted h.class), λ 
   where
     go : (b : Bool) → Decides Bool (eaten b) F
     go true = (anything, tt, λ u. (tt, λ i y j e g. refl))
+    go false = tt
+
+pub decides_must_see : (wanted : TokenClass) (F : TokenClass → Bool) → Decides (Unit {0}) (must_see wanted) F
+unfolding must_see
+decides_must_see wanted F = (anything, tt, λ h. (go (same_class wanted h.class), λ i y j e g. refl))
+  where
+    go : (b : Bool) → Decides (Unit {0}) (required b) F
+    go true = tt
+    go false = tt
+
+pub decides_node_at : (index : ℕ) (F : TokenClass → Bool) → Decides (Unit {0}) (node_at index) F
+unfolding node_at
+decides_node_at index F = (anything, tt, λ b. (go b, λ i y j e g. refl))
+  where
+    go : (b : Bool) → Decides (Unit {0}) (node_counted index b) F
+    go true = tt
     go false = tt
 
 pub decides_number : (bytes : List ℕ) (F : TokenClass → Bool) → Decides ℕ (number bytes) F

@@ -11,7 +11,7 @@ use Rattle.vsd_grammar.specs.declared.cause.Counted.TheVariants as limit
 use Rattle.vsd_grammar.specs.declared.syntax_error.Stop.{Stop as Stopped}
 use Rattle.vsd_grammar.specs.declared.syntax_error.Stop.TheVariants as stop
 use Rattle.vsd_grammar.specs.Input.{Input, State, Lookahead, same_class}
-use Rattle.vsd_grammar.specs.Grammar.{G, ret, refuse, lookahead, pass, count, bind, until, Outcome}
+use Rattle.vsd_grammar.specs.Grammar.{G, ret, refuse, refuse_at, lookahead, pass, count, bind, until, Outcome}
 
 -- What a function that reads ensures: the outcome of the reading, unless memory fails. `view` gives the value
 -- of which the grammar speaks.
@@ -30,6 +30,14 @@ expected false = refuse (Unit {0}) Unexpected
 
 unfoldable pub expect : TokenClass → G (Unit {0})
 expect wanted = bind Lookahead (Unit {0}) lookahead (λ h. expected (same_class wanted h.class))
+
+-- a token of this class, which isn't passed over
+abbrev pub required : Bool → G (Unit {0})
+required true = ret (Unit {0}) tt
+required false = refuse (Unit {0}) Unexpected
+
+unfoldable pub must_see : TokenClass → G (Unit {0})
+must_see wanted = bind Lookahead (Unit {0}) lookahead (λ h. required (same_class wanted h.class))
 
 -- passes over a token of this class, if it is at hand, and tells whether it was
 abbrev pub eaten : Bool → G Bool
@@ -55,6 +63,15 @@ no_nodes = count (Unit {0}) (λ s. Ok (tt, with_nodes s 0))
 -- one more node of the term in hand, which the token at hand names
 unfoldable pub node : G (Unit {0})
 node = count (Unit {0}) (λ s. if nat_lt s.nodes most_nodes then Ok (tt, with_nodes s (s.nodes + 1)) else Err TooDeep)
+
+-- one more node, which the token of this index names: it is refused once a later token is at hand
+abbrev pub node_counted : ℕ → Bool → G (Unit {0})
+node_counted index true = ret (Unit {0}) tt
+node_counted index false = refuse_at (Unit {0}) index TooDeep
+
+unfoldable pub node_at : ℕ → G (Unit {0})
+node_at index = bind Bool (Unit {0})
+    (count Bool (λ s. if nat_lt s.nodes most_nodes then Ok (true, with_nodes s (s.nodes + 1)) else Ok (false, s))) (node_counted index)
 
 -- the most names that have a number
 abbrev pub most_names : ℕ

@@ -6,7 +6,7 @@ ghost use Rattle.vsd_grammar.specs.Input.{class_at, bytes_at, line_at, class_of,
 ghost use Rattle.vsd_grammar.specs.Words.{keyword_of, begins_with_point};
 ghost use Rattle.vsd_grammar.specs.Place.{seen_of, start_of, most_tokens, line_of, end_line};
 ghost use Rattle.vsd_grammar.specs.Grammar.{syntax_error, run, pass};
-ghost use Rattle.vsd_grammar.specs.Productions.{Reads, expect, eat, no_nodes, node, number};
+ghost use Rattle.vsd_grammar.specs.Productions.{Reads, expect, must_see, eat, no_nodes, node, node_at, number};
 
 use crate::keyword::{Keyword, begins_with_point, keyword_of};
 use crate::syntax_error::{Stop, SyntaxError};
@@ -182,6 +182,19 @@ impl<'a> Cursor<'a> {
         }
     }
 
+    /// Sees that a token of this class is at hand; any other is refused as unexpected.
+    #[tactic(auto, unfolding(crate::specs::Productions::must_see))]
+    pub fn must_see(&self, wanted: TokenClass) -> Result<(), Stop>
+        ensures reads { Reads (run _ (must_see wanted) self.now) result self.now }
+        ensures sure { result ≢ Err Stop.Memory }
+    {
+        if self.sees(wanted) {
+            Ok(())
+        } else {
+            Err(self.refuse(Cause::Unexpected))
+        }
+    }
+
     /// Passes over a token of this class, if it is at hand, and tells whether it was.
     #[tactic(auto, using(crate::proofs::Steps::eaten_token, crate::proofs::Steps::nothing_eaten, crate::proofs::Steps::seen_is_some))]
     pub fn eat(&mut self, wanted: TokenClass) -> bool
@@ -215,6 +228,21 @@ impl<'a> Cursor<'a> {
     {
         if self.nodes >= MOST_NODES {
             return Err(self.refuse(Cause::TooDeep));
+        }
+        self.nodes += 1;
+        Ok(())
+    }
+
+    /// Counts a node of the written term in hand, which the token of this index names.
+    ///
+    /// The 65th is refused as too deep, at that index, and the token at hand decides it.
+    #[tactic(auto, unfolding(crate::specs::Productions::node_at))]
+    pub fn node_at(&mut self, index: usize) -> Result<(), Stop>
+        ensures reads { Reads (run _ (node_at index) self.old) result self.new }
+        ensures sure { result ≢ Err Stop.Memory }
+    {
+        if self.nodes >= MOST_NODES {
+            return Err(self.refuse_at(index, Cause::TooDeep));
         }
         self.nodes += 1;
         Ok(())
