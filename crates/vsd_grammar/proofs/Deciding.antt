@@ -102,6 +102,14 @@ expect_begins wanted i x j d = go (same_class wanted d.0.class) refl d.3
     go true e f = ap (λ h. same_class wanted h.class) d.2.0 ∙ e
     go false e f = absurd f
 
+pub must_see_begins : (wanted : TokenClass) (i : Input) (x : Unit {0}) (j : Input) → Derives (Unit {0}) (must_see wanted) i x j → same_class wanted (class_at i) ≡ true
+unfolding must_see
+must_see_begins wanted i x j d = go (same_class wanted d.0.class) refl d.3
+  where
+    go : (b : Bool) → same_class wanted d.0.class ≡ b → Derives (Unit {0}) (required b) d.1 x j → same_class wanted (class_at i) ≡ true
+    go true e f = ap (λ h. same_class wanted h.class) d.2.0 ∙ e
+    go false e f = absurd f
+
 pub name_begins : (i : Input) (x : List ℕ) (j : Input) → Derives (List ℕ) name i x j → is_name (class_at i) ≡ true
 unfolding name spelled_name
 name_begins i x j d = ap (λ h. is_name h.class) d.2.2.0 ∙ go (is_name d.2.0.class) refl d.2.3

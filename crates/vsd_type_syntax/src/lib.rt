@@ -4,12 +4,14 @@
 //! its rules.
 #![tactic(auto)]
 
+mod laws;
 mod lists;
 mod named;
 mod rules;
 mod starts;
 mod types;
 
+pub use laws::{first_test_accepts, types_are_decided};
 pub use lists::first_cause;
 pub use rules::TypeRules;
 pub use starts::{Special, Start};
