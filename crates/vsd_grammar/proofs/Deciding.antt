@@ -6,7 +6,9 @@ use Rattle.vsd_grammar.specs.declared.turn.Turn.TheVariants as turn
 use Rattle.vsd_grammar.specs.declared.cause.Cause.{Cause}
 use Rattle.vsd_grammar.specs.Input.{Input, class_at, same_class}
 use Rattle.vsd_grammar.specs.Grammar.{Derives, Decides}
-use Rattle.vsd_grammar.specs.Productions.{expected, expect, required, must_see, node_counted, node_at, eaten, eat, no_nodes, node, number, checked, scan_step, scan, is_name, name_by, spelled_name, then_pass, name, numbered_name, plain_turn, plain_words}
+use Rattle.vsd_grammar.specs.Productions.{expected, expect, required, must_see, node_counted, node_at, eaten, eat, no_nodes, node, number, checked, scan_step, scan, is_name, name_by, spelled_name, then_pass, name, numbered_name, plain_turn, plain_words, number_of, spelled_number}
+use Rattle.vsd_grammar.specs.Skipping.{skip, skip_turn}
+use Rattle.vsd_grammar.specs.declared.token_class.TokenClass.TheVariants as class
 
 -- any token may follow
 abbrev pub anything : TokenClass → Bool
@@ -68,6 +70,15 @@ decides_scan S f s F = (anything, λ t. ((anything, tt, λ h. (go (f h.class t),
     go (turn.Pass u) = (anything, tt, λ v. (tt, λ i y j e g. refl))
     go (turn.Refuse cause) = tt
     go turn.Stop = tt
+
+pub decides_skip : (stops : TokenClass → Bool) (F : TokenClass → Bool) → Decides ℕ (skip stops) F
+unfolding skip
+decides_skip stops F = decides_scan ℕ (skip_turn stops) 0 F
+
+pub decides_spelled_number : (low high most : ℕ) (F : TokenClass → Bool) → Decides ℕ (spelled_number low high most) F
+unfolding spelled_number
+decides_spelled_number low high most F =
+    (anything, tt, λ h. (decides_checked ℕ (number_of (same_class class.Number h.class) low high most h.bytes) F, λ i y j e g. refl))
 
 pub decides_spelled_name : (F : TokenClass → Bool) → Decides (List ℕ) spelled_name F
 unfolding spelled_name

@@ -116,9 +116,11 @@ plain_turn : (f : TokenClass → Bool) (d : ℕ) (q : TokenClass) → IsTrue (is
 plain_turn f d q plain s =
     let a = and_both (not (is_end q) && not (same_class opening q) && not (same_class closing q)) (not (same_class class.Percents q)) plain in
     let b = and_both (not (is_end q) && not (same_class opening q)) (not (same_class closing q)) a.0 in
-    let c = and_both (not (is_end q)) (not (same_class opening q)) b.0 in
-    (tests (same_class opening q) (same_class closing q) (stops_in f d q) (same_class class.Percents q) (not_true (same_class opening q) c.1) (not_true (same_class closing q) b.1) s
-    (not_true (same_class class.Percents q) a.1), not_true (is_end q) c.0)
+    let c = and_both (not (is_end q)) (not (same_class opening q)) b.0 in (
+      tests (same_class opening q) (same_class closing q) (stops_in f d q) (same_class class.Percents q) (not_true (same_class opening q) c.1) (not_true (same_class closing q) b.1) s
+          (not_true (same_class class.Percents q) a.1),
+      not_true (is_end q) c.0,
+    )
   where
     tests : (o c s p : Bool) → o ≡ false → c ≡ false → s ≡ false → p ≡ false → turn_by o c s p d ≡ turn.Pass d
     tests false false false false g h k l = refl

@@ -1,5 +1,5 @@
 -- Productions that both readers share, and what a function that reads one ensures.
-use Rattle.std.specs.Prelude.{◌≡◌, ℕ, ◌+◌, nat_lt, ◌==◌, Bool, true, false, if◌then◌else◌, List, [], ◌∷◌, ◌++◌, length, position, Option, Some, None, Result, Ok, Err}
+use Rattle.std.specs.Prelude.{◌≡◌, ℕ, ◌+◌, ◌-◌, ◌*◌, ◌&&◌, nat_lt, nat_le, ◌==◌, Bool, true, false, if◌then◌else◌, List, [], ◌∷◌, ◌++◌, length, position, Option, Some, None, Result, Ok, Err}
 use Rattle.std.specs.Str.{bytes_eq}
 use Rattle.vsd_grammar.specs.declared.token_class.TokenClass.{TokenClass}
 use Rattle.vsd_grammar.specs.declared.token_class.TokenClass.TheVariants as class
@@ -146,3 +146,25 @@ plain_turn _ s = Stop
 
 unfoldable pub plain_words : G (Unit {0})
 plain_words = scan (Unit {0}) plain_turn tt
+
+-- ---- numbers
+
+abbrev pub is_digit : ℕ → Bool
+is_digit b = nat_le 48 b && nat_le b 57
+
+-- the number whose decimal digits are those of a number before and these, and none where a byte is no digit
+abbrev pub digits_from : ℕ → List ℕ → Option ℕ
+digits_from n [] = Some n
+digits_from n (b ∷ bs) = if is_digit b then digits_from (10 * n + (b - 48)) bs else None
+
+abbrev pub in_range : ℕ → ℕ → Option ℕ → Result ℕ Cause
+in_range low high None = Err Unexpected
+in_range low high (Some n) = if nat_le low n && nat_le n high then Ok n else Err Unexpected
+
+abbrev pub number_of : Bool → ℕ → ℕ → ℕ → List ℕ → Result ℕ Cause
+number_of false low high most bytes = Err Unexpected
+number_of true low high most bytes = if nat_lt most (length bytes) then Err Unexpected else in_range low high (digits_from 0 bytes)
+
+-- the number at hand, which isn't passed over: in this range, and with at most so many decimal digits
+unfoldable pub spelled_number : ℕ → ℕ → ℕ → G ℕ
+spelled_number low high most = bind Lookahead ℕ lookahead (λ h. checked ℕ (number_of (same_class class.Number h.class) low high most h.bytes))

@@ -8,10 +8,10 @@ ghost use Rattle.vsd_grammar.specs.Place.{seen_of, start_of, most_tokens, line_o
 ghost use Rattle.vsd_grammar.specs.Grammar.{syntax_error, run, pass};
 ghost use Rattle.vsd_grammar.specs.Productions.{Reads, expect, must_see, eat, no_nodes, node, node_at, number};
 
+use crate::cause::{Cause, Counted};
 use crate::keyword::{Keyword, begins_with_point, keyword_of};
 use crate::syntax_error::{Stop, SyntaxError};
 use crate::token_class::TokenClass;
-use crate::cause::{Cause, Counted};
 use sqlite_items::at as token_at;
 use std::marker::Model;
 use vsd_terms::{Names, NamesError};
@@ -289,10 +289,7 @@ fn class_in(text: &[u8], tokens: &[Token], index: usize) -> TokenClass
 {
     match token_at(tokens, index) {
         None => TokenClass::End,
-        Some(token) => class_by(
-            token.kind,
-            &text[token.start as usize..token.end as usize],
-        ),
+        Some(token) => class_by(token.kind, &text[token.start as usize..token.end as usize]),
     }
 }
 

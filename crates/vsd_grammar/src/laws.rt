@@ -1,22 +1,24 @@
 // The laws that hold of every grammar. Each is a function that does nothing and ensures its law.
 ghost use Rattle.vsd_grammar.specs.Grammar.{G, Decides};
-ghost use Rattle.vsd_grammar.specs.Productions.{name, numbered_name, plain_words};
+ghost use Rattle.vsd_grammar.specs.Productions.{name, numbered_name, plain_words, spelled_number};
 ghost use Rattle.vsd_grammar.specs.Words.{WordsHaveKeys};
-ghost use Rattle.vsd_grammar.specs.Skipping.{SkipsPairs};
+ghost use Rattle.vsd_grammar.specs.Skipping.{SkipsPairs, skip};
 ghost use Rattle.vsd_grammar.specs.Laws.{IsSound, IsComplete, KeepsReading, KeepsRefusal, KeepsCauses, StandsInList, IsReader, GoesForward, IsDead, IsUnambiguous};
 ghost use Rattle.vsd_grammar.specs.declared.token_class.TokenClass.{TokenClass};
-ghost use Rattle.std.specs.Prelude.{Bool};
+ghost use Rattle.std.specs.Prelude.{ℕ, Bool};
 
 /// Each word of the grammar has its own key.
 pub fn words_have_keys()
     ensures { WordsHaveKeys }
 {}
 
-/// Names and plain words are read in one way, whatever follows them.
+/// Names, plain words, numbers and what is passed over are read in one way, whatever follows them.
 pub fn names_are_decided()
     ensures names { (F : TokenClass → Bool) → Decides _ name F }
-    ensures numbers { (F : TokenClass → Bool) → Decides _ numbered_name F }
+    ensures numbered { (F : TokenClass → Bool) → Decides _ numbered_name F }
     ensures words { (F : TokenClass → Bool) → Decides _ plain_words F }
+    ensures numbers { (low high most : ℕ) (F : TokenClass → Bool) → Decides _ (spelled_number low high most) F }
+    ensures skipped { (stops : TokenClass → Bool) (F : TokenClass → Bool) → Decides _ (skip stops) F }
 {}
 
 /// What is passed over are tokens with their braces in pairs, up to the first token that ends it, and nothing else is.

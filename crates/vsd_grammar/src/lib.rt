@@ -3,6 +3,7 @@
 
 mod cause;
 mod cursor;
+mod decimal;
 mod keyword;
 mod laws;
 mod loops;
@@ -15,11 +16,13 @@ mod token_class;
 mod turn;
 
 pub use cause::{Cause, Counted, Form, Listed};
-pub use cursor::{Cursor, line_of, same_keyword, same_class};
+pub use cursor::{Cursor, line_of, same_class, same_keyword};
+pub use decimal::spelled_number;
 pub use keyword::{Keyword, keyword_of};
 pub use laws::{
     Production, complete, dead, goes_forward, keeps_causes, keeps_reading, keeps_refusal,
-    names_are_decided, reads_well, skips_pairs, sound, stands_in_list, unambiguous, words_have_keys,
+    names_are_decided, reads_well, skips_pairs, sound, stands_in_list, unambiguous,
+    words_have_keys,
 };
 pub use loops::{scan, separated, until};
 pub use naming::{is_name, name, numbered_name, plain_words, spelled_name};

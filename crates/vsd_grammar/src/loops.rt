@@ -8,8 +8,8 @@ ghost use Rattle.vsd_grammar.specs.declared.token_class.TokenClass.{TokenClass};
 ghost use Rattle.vsd_grammar.specs.declared.turn.Turn.{Turn};
 ghost use Rattle.vsd_grammar.specs.declared.cause.Cause.{Cause};
 
-use crate::cursor::Cursor;
 use crate::cause::Cause;
+use crate::cursor::Cursor;
 use crate::syntax_error::Stop;
 use crate::token_class::TokenClass;
 use crate::turn::Turn;

@@ -3,12 +3,12 @@ ghost use Rattle.std.specs.Prelude.{◌≡◌, ◌≢◌};
 ghost use Rattle.vsd_grammar.specs.Grammar.{run};
 ghost use Rattle.vsd_grammar.specs.Productions.{Reads, ReadsBy, is_name, spelled_name, name, numbered_name, plain_turn, plain_words};
 
+use crate::cause::{Cause, Counted};
 use crate::cursor::Cursor;
 use crate::loops::scan;
 use crate::syntax_error::Stop;
 use crate::token_class::TokenClass;
 use crate::turn::Turn;
-use crate::cause::{Cause, Counted};
 
 /// The most bytes of a name.
 const MOST_BYTES: usize = 255;

@@ -229,7 +229,14 @@ fn each_word_has_its_key(rt: HostRuntime) {
         assert!(rt; keyword_of(word) == key);
     }
     let others: [&[u8]; 8] = [
-        b"", b"i", b"Class", b"classs", b"clasS", b".clasp", b"cil", b"beforefieldinits",
+        b"",
+        b"i",
+        b"Class",
+        b"classs",
+        b"clasS",
+        b".clasp",
+        b"cil",
+        b"beforefieldinits",
     ];
     for word in others {
         assert!(rt; keyword_of(word) == Keyword::Other);

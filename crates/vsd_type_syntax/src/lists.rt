@@ -11,13 +11,7 @@ fn name_cause(empty: bool, special: Special) -> Option<Cause>
     match special {
         Special::Builtin(_) => None,
         Special::Refused(form) => Some(Cause::Unsupported(form)),
-        Special::Nothing => {
-            if empty {
-                Some(Cause::Unexpected)
-            } else {
-                None
-            }
-        }
+        Special::Nothing => { if empty { Some(Cause::Unexpected) } else { None } }
     }
 }
 
