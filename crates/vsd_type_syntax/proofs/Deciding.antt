@@ -109,20 +109,17 @@ module _ (rules : spec.Rules) (more : ℕ → ℕ → G Term) (decided : (index 
       go h false = tt
       go h true = by h (special_of h.bytes)
 
+  decides_bracketed : (F : TokenClass → Bool) → Decides Term (spec.bracketed rules more) F
+  unfolding spec.bracketed
+  decides_bracketed F = (
+    anything,
+    decides_name anything,
+    λ n. ((anything, decides_expect spec.right_bracket anything, λ v. (decides_named true F, λ i y j e h. refl)), λ i y j e h. refl),
+  )
+
   decides_scoped : (F : TokenClass → Bool) → Decides Term (spec.scoped rules more) F
   unfolding spec.scoped
-  decides_scoped F = (
-    anything,
-    tt,
-    λ u. (
-      (
-        anything,
-        decides_name anything,
-        λ n. ((anything, decides_expect spec.right_bracket anything, λ v. (decides_named true F, λ i y j e h. refl)), λ i y j e h. refl),
-      ),
-      λ i y j e h. refl,
-    ),
-  )
+  decides_scoped F = (anything, tt, λ u. (decides_bracketed F, λ i y j e h. refl))
 
   decides_keyworded : (F : TokenClass → Bool) → Decides Term (spec.keyworded rules more) F
   unfolding spec.keyworded
@@ -219,3 +216,18 @@ decides_type_of rules (suc room) only_named F =
 pub decides_written : (rules : spec.Rules) (only_named : Bool) (F : TokenClass → Bool) → Decides Term (spec.written rules only_named) F
 unfolding spec.written
 decides_written rules only_named F = (anything, decides_no_nodes anything, λ u. (decides_type_of rules 15 only_named F, λ i y j e h. refl))
+
+pub decides_written_rest : (rules : spec.Rules) (F : TokenClass → Bool) → Decides Term (spec.written_rest rules) F
+unfolding spec.written_rest
+decides_written_rest rules F = (
+  anything,
+  decides_no_nodes anything,
+  λ u. (
+    (
+      anything,
+      decides_bracketed rules (spec.more_of rules (Some 14)) (decides_arguments rules (spec.type_of rules 14 false) (decides_type_of rules 14 false)) anything,
+      λ t. (decides_suffixed rules spec.no_arguments decides_no_arguments t F, λ i y j e h. refl),
+    ),
+    λ i y j e h. refl,
+  ),
+)

@@ -127,10 +127,13 @@ named_if rules more scoped h true = named_by rules more scoped h (special_of h.b
 unfoldable pub named : Rules → (ℕ → ℕ → G Term) → Bool → G Term
 named rules more scoped = bind Lookahead Term lookahead (λ h. named_if rules more scoped h (is_name h.class))
 
+-- a name and `]`, after a `[`, before the name of a type
+unfoldable pub bracketed : Rules → (ℕ → ℕ → G Term) → G Term
+bracketed rules more = bind (List ℕ) Term name (λ _. bind (Unit {0}) Term (expect right_bracket) (λ _. named rules more true))
+
 -- `[`, a name and `]` before the name of a type
 unfoldable pub scoped : Rules → (ℕ → ℕ → G Term) → G Term
-scoped rules more = bind (Unit {0}) Term pass (λ _. bind (List ℕ) Term name (λ _.
-    bind (Unit {0}) Term (expect right_bracket) (λ _. named rules more true)))
+scoped rules more = bind (Unit {0}) Term pass (λ _. bracketed rules more)
 
 abbrev pub keyworded_by : Rules → (ℕ → ℕ → G Term) → Bool → G Term
 keyworded_by rules more true = scoped rules more
@@ -183,6 +186,11 @@ unfoldable pub type_of : Rules → ℕ → Bool → G Term
 type_of rules zero only_named = type_by rules no_arguments only_named
 type_of rules (suc room) only_named = type_by rules (arguments rules (type_of rules room false)) only_named
 
+-- what a `<` after a type's name begins, where so many levels are left for its arguments, or none
+abbrev pub more_of : Rules → Option ℕ → ℕ → ℕ → G Term
+more_of rules None = no_arguments
+more_of rules (Some room) = arguments rules (type_of rules room false)
+
 -- the most levels below that of a written term
 abbrev pub most_below : ℕ
 most_below = 15
@@ -190,6 +198,10 @@ most_below = 15
 -- a written term
 unfoldable pub written : Rules → Bool → G Term
 written rules only_named = bind (Unit {0}) Term no_nodes (λ _. type_of rules most_below only_named)
+
+-- a written term whose first token, a `[`, was passed over already
+unfoldable pub written_rest : Rules → G Term
+written_rest rules = bind (Unit {0}) Term no_nodes (λ _. bind Term Term (bracketed rules (more_of rules (Some 14))) suffixed)
 
 -- why a token is refused that can't begin a type, or a named one alone
 abbrev pub name_cause : Bool → Special → Option Cause
@@ -204,8 +216,3 @@ start_cause _ bytes = None
 
 unfoldable pub first_cause : Bool → TokenClass → List ℕ → Option Cause
 first_cause only_named q bytes = start_cause (start_at only_named q) bytes
-
--- what a `<` after a type's name begins, where so many levels are left for its arguments, or none
-abbrev pub more_of : Rules → Option ℕ → ℕ → ℕ → G Term
-more_of rules None = no_arguments
-more_of rules (Some room) = arguments rules (type_of rules room false)

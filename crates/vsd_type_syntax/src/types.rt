@@ -115,6 +115,26 @@ where
     }
 }
 
+/// The name of an assembly and `]`, after a `[`, before the name of a type.
+#[tactic(auto, unfolding(crate::specs::Types::bracketed))]
+fn bracketed<R: TypeRules, M>(
+    alloc: Global,
+    cursor: &mut Cursor<'_>,
+    rules: &R,
+    more: &M,
+) -> Result<Term, Stop>
+where
+    M: Fn(&mut Cursor<'_>, usize, u16) -> Result<Term, Stop>,
+    requires { M.IsAlwaysCallable more.now }
+    ensures { (room : Option ℕ)
+        → ReadsMore (M.post more.now) (λ index number. run _ (spec.more_of (R.rules rules.now) room index number))
+        → Reads (run _ (spec.bracketed (R.rules rules.now) (spec.more_of (R.rules rules.now) room)) cursor.old) result cursor.new }
+{
+    let _scope = name(cursor)?;
+    cursor.expect(TokenClass::Symbol(b']'))?;
+    named(alloc, cursor, rules, more, true)
+}
+
 /// `[`, which is at hand, the name of an assembly and `]`, before the name of a type.
 #[tactic(auto, unfolding(crate::specs::Types::scoped))]
 fn scoped<R: TypeRules, M>(
@@ -131,9 +151,7 @@ where
         → Reads (run _ (spec.scoped (R.rules rules.now) (spec.more_of (R.rules rules.now) room)) cursor.old) result cursor.new }
 {
     cursor.pass()?;
-    let _scope = name(cursor)?;
-    cursor.expect(TokenClass::Symbol(b']'))?;
-    named(alloc, cursor, rules, more, true)
+    bracketed(alloc, cursor, rules, more)
 }
 
 /// `class` or `valuetype`, which is at hand, before a type that is named.
@@ -319,4 +337,49 @@ pub fn written<R: TypeRules>(
 {
     cursor.begin_term();
     type_of(alloc, cursor, rules, MOST_BELOW, only_named)
+}
+
+/// A written term whose first token, a `[`, was passed over already; it is refused as `written` refuses.
+#[tactic(auto, unfolding(crate::specs::Types::written_rest))]
+pub fn written_rest<R: TypeRules>(
+    alloc: Global,
+    cursor: &mut Cursor<'_>,
+    rules: &R,
+) -> Result<Term, Stop>
+    ensures { Reads (run _ (spec.written_rest (R.rules rules.now)) cursor.old) result cursor.new }
+{
+    cursor.begin_term();
+    let term = outermost_rest(alloc, cursor, rules)?;
+    suffixed(cursor, term)
+}
+
+/// A type of the first level, after a `[`.
+fn outermost_rest<R: TypeRules>(
+    alloc: Global,
+    cursor: &mut Cursor<'_>,
+    rules: &R,
+) -> Result<Term, Stop>
+    ensures { Reads (run _ (spec.bracketed (R.rules rules.now) (spec.more_of (R.rules rules.now) (Option.Some 14))) cursor.old)
+        result cursor.new }
+{
+    let more = |inner: &mut Cursor<'_>, index: usize, number: u16| -> Result<Term, Stop>
+        ensures { Reads (run _ (spec.more_of (R.rules rules.entry.now) (Option.Some 14) index number) inner.old) result inner.new }
+    { outermost_arguments(alloc, inner, rules, index, number) };
+    bracketed(alloc, cursor, rules, &more)
+}
+
+/// The arguments of a type of the first level.
+fn outermost_arguments<R: TypeRules>(
+    alloc: Global,
+    cursor: &mut Cursor<'_>,
+    rules: &R,
+    index: usize,
+    number: u16,
+) -> Result<Term, Stop>
+    ensures { Reads (run _ (spec.more_of (R.rules rules.now) (Option.Some 14) index number) cursor.old) result cursor.new }
+{
+    let argument = |inner: &mut Cursor<'_>| -> Result<Term, Stop>
+        ensures { Reads (run _ (spec.type_of (R.rules rules.entry.now) 14 Bool.false) inner.old) result inner.new }
+    { type_of(alloc, inner, rules, MOST_BELOW - 1, false) };
+    arguments(alloc, cursor, rules, &argument, index, number)
 }
