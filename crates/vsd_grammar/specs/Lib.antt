@@ -2,6 +2,7 @@ pub mod Words
 pub mod Input
 pub mod Place
 pub mod Grammar
-pub mod Laws
 pub mod Productions
+pub mod Skipping
+pub mod Laws
 pub mod Loops
