@@ -1,3 +1,4 @@
+-- Lemmas that several proofs of this crate share.
 pub mod Keys
 pub mod Outcomes
 pub mod Bounds

@@ -1,3 +1,4 @@
+-- What contracts of this crate cite.
 pub mod Words
 pub mod Input
 pub mod Place

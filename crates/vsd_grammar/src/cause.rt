@@ -1,4 +1,4 @@
-// Why a token is refused.
+//! Why a token is refused.
 
 /// A form of ilasm that is recognised and not supported.
 #[derive(Clone, Copy, Debug, PartialEq, Eq, Drop)]

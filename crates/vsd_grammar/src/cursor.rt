@@ -1,4 +1,4 @@
-// A place in a list of tokens.
+//! A place in a list of tokens.
 ghost use Rattle.std.specs.Prelude.{◌≡◌, ◌≢◌, ◌≤◌, min, false, if◌then◌else◌, length, map, slice_get, All, Contains};
 ghost use Rattle.vsd_text.specs.Tokens.{LiesWithin};
 ghost use Rattle.vsd_terms.specs.Names.{AreNames};

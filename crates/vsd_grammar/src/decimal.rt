@@ -1,4 +1,4 @@
-// Numbers in decimal digits.
+//! Numbers in decimal digits.
 ghost use Rattle.std.specs.Prelude.{◌≡◌, ◌≢◌, ◌≤◌, ◌<◌, ◌^◌, length, IfOk, IfSome};
 ghost use Rattle.vsd_grammar.specs.Grammar.{run};
 ghost use Rattle.vsd_grammar.specs.Productions.{Reads, digits_from, spelled_number};

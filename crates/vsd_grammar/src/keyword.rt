@@ -1,4 +1,4 @@
-// The words of the grammar and of the forms that it refuses.
+//! The words of the grammar and of the forms that it refuses.
 ghost use Rattle.std.specs.Prelude.{◌≡◌, ◌≤◌, ◌<◌, length, map, slice_get};
 ghost use Rattle.vsd_grammar.specs.Words.{keyword_of, key_by, slot_of, begins_with_point};
 

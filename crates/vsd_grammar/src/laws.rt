@@ -1,4 +1,4 @@
-// The laws that hold of every grammar. Each is a function that does nothing and ensures its law.
+//! The laws that hold of every grammar. Each is a function that does nothing and ensures its law.
 ghost use Rattle.vsd_grammar.specs.Grammar.{G, Decides};
 ghost use Rattle.vsd_grammar.specs.Productions.{name, numbered_name, plain_words, spelled_number};
 ghost use Rattle.vsd_grammar.specs.Words.{WordsHaveKeys};

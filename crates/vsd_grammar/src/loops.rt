@@ -1,4 +1,4 @@
-// The three loops that carry all repetition.
+//! The three loops that carry all repetition.
 ghost use Rattle.std.specs.Prelude.{◌≡◌, ◌≢◌, ℕ, suc, Bool, List, Option};
 ghost use Rattle.vsd_grammar.specs.Grammar.{items, tested, tried, turns, Outcome, run};
 ghost use Rattle.vsd_grammar.specs.Input.{Input, class_at, left};

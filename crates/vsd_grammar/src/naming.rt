@@ -1,4 +1,4 @@
-// Names, which declarations and scripts read alike.
+//! Names, which declarations and scripts read alike.
 ghost use Rattle.std.specs.Prelude.{◌≡◌, ◌≢◌};
 ghost use Rattle.vsd_grammar.specs.Grammar.{run};
 ghost use Rattle.vsd_grammar.specs.Productions.{Reads, ReadsBy, is_name, spelled_name, name, numbered_name, plain_turn, plain_words};

@@ -1,4 +1,4 @@
-// What is passed over token by token.
+//! What is passed over token by token.
 ghost use Rattle.std.specs.Prelude.{◌≡◌, ◌≢◌, ◌<◌, ◌≤◌, ◌+◌, Bool, IfOk};
 ghost use Rattle.vsd_grammar.specs.Grammar.{run};
 ghost use Rattle.vsd_grammar.specs.Loops.{Computes};

@@ -1,4 +1,4 @@
-// Why a list of tokens can't be read.
+//! Why a list of tokens can't be read.
 use crate::cause::Cause;
 use std::alloc::AllocError;
 

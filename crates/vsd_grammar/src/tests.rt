@@ -1,3 +1,4 @@
+//! Tests of what no clause says.
 use crate::cause::{Cause, Counted, Form};
 use crate::cursor::{Cursor, line_of};
 use crate::keyword::{Keyword, keyword_of};

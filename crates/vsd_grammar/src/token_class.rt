@@ -1,4 +1,4 @@
-// The class of a token.
+//! The class of a token.
 use crate::keyword::Keyword;
 
 /// The class of the token at hand. A quoted name is never a word of the grammar.

@@ -1,4 +1,4 @@
-// What a scan does at a token.
+//! What a scan does at a token.
 use crate::cause::Cause;
 
 /// What a scan does at the token at hand.

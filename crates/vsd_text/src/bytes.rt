@@ -1,4 +1,4 @@
-// The classes of bytes.
+//! The classes of bytes.
 ghost use Rattle.std.specs.Prelude.{◌≡◌, ℕ, Bool, IsTrue};
 ghost use Rattle.vsd_text.specs.Bytes.{is_of_class, is_run_byte, is_quoted_byte, is_line_byte};
 

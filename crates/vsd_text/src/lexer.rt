@@ -1,4 +1,4 @@
-// Cuts a text into tokens.
+//! Cuts a text into tokens.
 ghost use Rattle.std.specs.Prelude.{◌≡◌, ◌≤◌, ◌<◌, ◌+◌, ◌^◌, [], ◌∷◌, ◌++◌, length, take, drop, IfOk, IfErr, OnOk, All};
 ghost use Rattle.vsd_text.specs.Outcome.{Gives};
 ghost use Rattle.vsd_text.specs.Tokens.{IsPieceAt, line_feeds, mark_len, token_at, tokens_at, tokens_of, refusal_of, text_limit, LiesWithin};

@@ -1,4 +1,4 @@
-// What a text is cut into: tokens and what stands between them.
+//! What a text is cut into: tokens and what stands between them.
 ghost use Rattle.std.specs.Prelude.{◌≡◌, ◌≢◌, ◌+◌, ◌<◌, ◌≤◌, ℕ, false, length, drop, IfOk, IsTrue, slice_index};
 ghost use Rattle.std.specs.List.{prefix_len};
 ghost use Rattle.vsd_text.specs.Bytes.{is_run_byte, is_twin, is_opening};

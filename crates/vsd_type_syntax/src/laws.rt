@@ -1,4 +1,4 @@
-// What holds of types. Each is a function that does nothing and ensures its law.
+//! What holds of types. Each is a function that does nothing and ensures its law.
 ghost use Rattle.std.specs.Prelude.{◌≡◌, Bool, Option, None};
 ghost use Rattle.vsd_grammar.specs.Grammar.{Decides, Derives, tried};
 ghost use Rattle.vsd_grammar.specs.Input.{Input};

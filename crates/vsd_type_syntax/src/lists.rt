@@ -1,4 +1,4 @@
-// The first test of a list of types.
+//! The first test of a list of types.
 ghost use Rattle.std.specs.Prelude.{◌≡◌};
 ghost use Rattle.vsd_type_syntax.specs.Types as spec;
 

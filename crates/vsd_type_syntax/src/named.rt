@@ -1,4 +1,4 @@
-// The parts of a type: built-in types, parameters, names.
+//! The parts of a type: built-in types, parameters, names.
 ghost use Rattle.std.specs.Prelude.{◌≡◌, ℕ, length, Option, option_map};
 ghost use Rattle.vsd_grammar.specs.Grammar.{G, run};
 ghost use Rattle.vsd_grammar.specs.Input.{Input};

@@ -1,4 +1,4 @@
-// What differs between the readers of declarations and of scripts.
+//! What differs between the readers of declarations and of scripts.
 ghost use Rattle.std.specs.Prelude.{◌≡◌};
 ghost use Rattle.vsd_grammar.specs.Grammar.{run, count};
 ghost use Rattle.vsd_grammar.specs.Productions.{Reads};

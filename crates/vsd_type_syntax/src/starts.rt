@@ -1,4 +1,4 @@
-// What a token at a type's place begins, and what a token after a type shows.
+//! What a token at a type's place begins, and what a token after a type shows.
 ghost use Rattle.std.specs.Prelude.{◌≡◌};
 ghost use Rattle.vsd_type_syntax.specs.Starts as spec;
 

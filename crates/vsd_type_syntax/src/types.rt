@@ -1,4 +1,4 @@
-// Types, whose arguments are types.
+//! Types, whose arguments are types.
 ghost use Rattle.std.specs.Prelude.{◌≡◌, ℕ, Option, Bool};
 ghost use Rattle.vsd_grammar.specs.Grammar.{G, run, items, Outcome};
 ghost use Rattle.vsd_grammar.specs.Input.{Input, lookahead_of};
