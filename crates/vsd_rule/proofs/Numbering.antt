@@ -1,13 +1,11 @@
 -- Where words lie and how they are numbered is one to one, and ties the numbers of callers, cast regions and printed words to the zones.
-use Rattle.std.proofs.Common.{◌≡◌, ◌⊎◌, ℕ, zero, suc, ◌+◌, ◌-◌, ◌*◌, ◌/◌, ◌<◌, ◌≤◌, ◌^◌, Bool, cond, List, get_or, ap, sym, refl, ◌∙◌, ⊎_elim, arith}
+use Rattle.std.proofs.Common.{◌≡◌, ℕ, suc, ◌+◌, ◌-◌, ◌*◌, ◌/◌, ◌<◌, ◌≤◌, ◌^◌, Bool, cond, ap, sym, ◌∙◌, ⊎_elim, arith}
 use Rattle.std.specs.Prelude.{nat_lt}
 use Rattle.std.proofs.lemmas.Bool.{cases_lt, lt-ltb, le-ltb}
 use Rattle.std.proofs.lemmas.Nat.{pow_pos}
 use Rattle.std.proofs.Math.Nat.{pow-le-pow_right, two-pow-succ}
 use Rattle.vsd_rule.specs.declared.sizes.Sizes.{Sizes}
-use Rattle.vsd_rule.specs.Layout.{pin_at, counts_from, cells_from, casts_from, word_count, stated_number, Whose, the_epoch, of_caller, of_token, of_others, cast_rows, cast_row}
-use Rattle.vsd_rule.specs.Zones.{zones}
-use Rattle.vsd_rule.proofs.Windows.{cast_at}
+use Rattle.vsd_rule.specs.Layout.{pin_at, counts_from, cells_from, stated_number, Whose, the_epoch, of_caller, of_token, of_others, cast_rows, cast_row}
 
 -- ---- the stated numbers
 
@@ -110,7 +108,7 @@ unfolding cast_row
 cast_row-one_to_one region row other row' small small' same = ⊎_elim
     (λ (h : region < other). let past = past_region region other h in absurd (omega arith))
     (λ (h : other ≤ region). ⊎_elim
-        (λ (g : other < region). let past = past_region other region g in absurd (omega arith))
-        (λ (g : region ≤ other). let e : region ≡ other = omega arith in let p : 2 ^ region ≡ 2 ^ other = ap (λ (n : ℕ). 2 ^ n) e in (e, omega arith))
-        (cases_lt other region))
+    (λ (g : other < region). let past = past_region other region g in absurd (omega arith))
+    (λ (g : region ≤ other). let e : region ≡ other = omega arith in let p : 2 ^ region ≡ 2 ^ other = ap (λ (n : ℕ). 2 ^ n) e in (e, omega arith))
+    (cases_lt other region))
     (cases_lt region other)

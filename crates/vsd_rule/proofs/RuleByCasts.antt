@@ -23,7 +23,7 @@ use Rattle.vsd_rule.specs.Handles.{Handles, binding_for}
 use Rattle.vsd_rule.specs.Rows.{Rows}
 use Rattle.vsd_rule.specs.Casts.{Casts, CastAgrees, AreCastEvidences, version_of, write_of}
 use Rattle.vsd_rule.specs.Rule.{Whole, Rule, who_of, handle_seat, row_seat, cast_view}
-use Rattle.vsd_rule.specs.Evidence.{KnowsAnswer, HasCastEvidence}
+use Rattle.vsd_rule.specs.Evidence.{KnowsAnswer, HasCastEvidence, CastsAgree}
 use Rattle.vsd_rule.specs.CastSteps.{after_casts, after_region, after_grow, after_version, after_source, after_cast_word, after_version_again, after_set_source, after_set_cast, after_publish, begins_write, writes_row, nothing_written, stores_written, written_in, writing_source, writing_word}
 use Rattle.vsd_rule.proofs.Points.{unseen_set}
 use Rattle.vsd_rule.proofs.Windows.{casts_length, cast_at, cast_written, region_written}
@@ -112,6 +112,17 @@ module _ (k : Key) (words : List ℕ) (views : List View) (r : Rule k words view
       (λ (x : (i : ℕ) × (get_elem? v.casts.evidences i ≡ some (record { source = source; target = target; yes = given }))).
       cast_evidence_at k w.gen w.name v.casts.evidences (c.each id v.casts at_cast_view).evidences x.0 (record { source = source; target = target; yes = given }) x.1)
       has
+
+  -- and what they say is what the seat knows
+  pub casts_agree : CastsAgree v
+  casts_agree source target given number other has knows_source knows_target =
+      let e = cast_evidence_is source target given has in
+      let mine = w.handles.each id (handle_seat v) (at_map handle_seat views id v at) in
+      let a = binding_of_known k w.gen w.name v.handles.bindings mine.bindings knows_source.0 (binding_for source number) knows_source.1 in
+      let b = binding_of_known k w.gen w.name v.handles.bindings mine.bindings knows_target.0 (binding_for target other) knows_target.1 in
+      let key : v.key ≡ k = w.keyed id v at in
+      e.answer ∙ (ap (λ (n : ℕ). compatible k n (w.name target.row target.generation)) (sym a.number)
+      ∙ (ap (compatible k number) (sym b.number) ∙ ap (λ (q : Key). compatible q number other) (sym key)))
 
   -- ---- a cast row
 

@@ -1,5 +1,5 @@
 -- What each step on a cell, a counter or a bucket keeps of the whole rule.
-use Rattle.std.proofs.Common.{◌≡◌, ◌≢◌, ℕ, ◌+◌, ◌<◌, Bool, false, true, cond, List, [], ◌∷◌, Option, Some, None, length, map, get_or, set, ap, sym, refl, ◌∙◌, subst, arith, eq-eqb, ne_eqb}
+use Rattle.std.proofs.Common.{◌≡◌, ◌≢◌, ℕ, zero, suc, ◌+◌, ◌<◌, ◌≤◌, Bool, false, true, cond, List, [], ◌∷◌, Option, Some, None, length, map, get_or, set, ap, sym, refl, ◌∙◌, subst, arith, eq-eqb, ne_eqb}
 use Rattle.std.specs.Prelude.{nat_eq}
 use Rattle.std.proofs.lemmas.List.{set-get_or}
 use mathlib.Core.Option.{some}
@@ -55,6 +55,10 @@ module _ (k : Key) (words : List ℕ) (views : List View) (r : Rule k words view
     by_cell : (x : ℕ) (rows' : RowView) (act : Act) (n : ℕ) → by.RowsAre k words views r id v at (record (by.row_zones z) { cells = set z.cells site x }) rows'
         → Rule k (set words (cells_from k.sizes + site) x) (set views id (after_rows v rows' act n))
     by_cell x rows' act n kept = by.by_write k words views r id v at (cells_from k.sizes + site) x (record (by.row_zones z) { cells = set z.cells site x }) rows' act n (cell_written k.sizes words site x small) kept
+
+    -- a row that the cell names is one of the table's
+    pub cell_in_table : (row : ℕ) → rows.cell_word site ≡ Dispatch row → row < k.sizes.rows
+    cell_in_table row is = (rows.cell_names site row small is).0
 
     pub load_cell_keeps : Rule k words (set views id (after_cell v site (rows.cell_word site)))
     load_cell_keeps = by.by_rows k words views r id v at (cell_seen v.rows site (rows.cell_word site)) (LoadCell site) (packed_cell (rows.cell_word site)) (go (rows.cell_word site) refl)
@@ -120,6 +124,14 @@ module _ (k : Key) (words : List ℕ) (views : List View) (r : Rule k words view
         → Rule k (set words (buckets_from k.sizes + bucket) x) (set views id (after_rows v rows' act n))
     by_bucket x rows' act n kept =
         by.by_write k words views r id v at (buckets_from k.sizes + bucket) x (record (by.row_zones z) { buckets = set z.buckets bucket x }) rows' act n (bucket_written k.sizes words bucket x small) kept
+
+    -- a bucket is empty or names one of the table's rows
+    pub bucket_small : in_bucket_now ≤ k.sizes.rows
+    bucket_small = go (get_or z.buckets bucket 0) refl
+      where
+        go : (n : ℕ) → get_or z.buckets bucket 0 ≡ n → in_bucket_now ≤ k.sizes.rows
+        go zero is = let same = there in omega arith
+        go (suc row) is = let inside = (rows.bucket_names bucket row small (is ∙ omega arith)).0 in let same = there in omega arith
 
     pub load_bucket_keeps : (o : Option ℕ) → in_bucket_now ≡ packed_bucket o → Rule k words (set views id (after_bucket v bucket o))
     load_bucket_keeps None is = by.by_rows k words views r id v at v.rows (LoadBucket bucket) 0 (by.rows_still k words views r id v at)

@@ -25,7 +25,7 @@ use Rattle.vsd_rule.specs.Zones.{Zones, zones}
 use Rattle.vsd_rule.specs.Handles.{binding_for}
 use Rattle.vsd_rule.specs.Rows.{Agrees, Rows, Row, RowState, free, in_cell, in_bucket, kept, Protects, TrueWords, WasPublished, keeping_of}
 use Rattle.vsd_rule.specs.Rule.{Rule, handle_seat, row_seat}
-use Rattle.vsd_rule.specs.Evidence.{HasEvidence, KnowsTarget}
+use Rattle.vsd_rule.specs.Evidence.{HasEvidence, KnowsTarget, CallsAgree}
 use Rattle.vsd_rule.specs.RowFacts.{RowWordInRange, SeenAgain, FindsAgain}
 use Rattle.vsd_rule.specs.RowSteps.{offset_of, after_rows, keeps_row, claimed, after_claim, words_stored, stores_known, with_handle, with_token, with_target, after_set_handle, after_set_token, after_set_target, after_free, next_row, sees_target, unpacked_handle, row_word_seen, after_row_word}
 use Rattle.atomic_table.proofs.Lists.{at_map}
@@ -59,6 +59,13 @@ module _ (k : Key) (words : List ℕ) (views : List View) (r : Rule k words view
             answer = e.answer ∙ (λ c. target_of (key c) (is.number c) token);
           })
       (λ (e : (i : ℕ) × (get_elem? v.rows.evidences i ≡ some _)). evidence_there k r.whole.gen r.whole.name v.rows.evidences (by.mine k words views r id v at).evidences e.0 _ e.1)
+
+  pub calls_agree : CallsAgree v
+  calls_agree h token target number evidence knows =
+      let mine = r.whole.handles.each id (handle_seat v) (at_map handle_seat views id v at) in
+      let is = binding_of_known k r.whole.gen r.whole.name v.handles.bindings mine.bindings knows.0 (binding_for h number) knows.1 in
+      let key = by.key_is k words views r id v at in
+      (evidence_agrees h token target evidence).answer ∙ (λ c. target_of (sym key c) (sym is.number c) token)
 
   -- a step that changes nothing that its seat knows
   pub nothing_keeps : (rows' : RowView) (act : Act) (found : ℕ) → rows' ≡ v.rows → Rule k words (set views id (after_rows v rows' act found))

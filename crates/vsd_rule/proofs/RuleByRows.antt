@@ -1,12 +1,11 @@
 -- What each step on the epoch, on rows, cells, counters and buckets keeps of the whole rule: it changes what its seat knows of rows alone.
-use Rattle.std.proofs.Common.{◌≡◌, ◌≢◌, ℕ, ◌+◌, ◌*◌, ◌<◌, ◌≤◌, ◌^◌, List, [], ◌∷◌, Option, Some, None, length, map, get_or, set, ap, sym, refl, ◌∙◌, subst, ⊎_elim, arith, length-set}
+use Rattle.std.proofs.Common.{◌≡◌, ◌≢◌, ℕ, ◌+◌, ◌<◌, ◌≤◌, ◌^◌, List, [], ◌∷◌, Option, Some, map, set, ap, sym, refl, ◌∙◌, subst, ⊎_elim, arith, length-set}
 use Rattle.std.proofs.lemmas.List.{map-set}
 use Rattle.std.specs.Prelude.{IfSome}
 use mathlib.Core.Option.{some}
 use lib.ListN.{get_elem?}
 use Rattle.atomic_table.proofs.Lists.{at_set, set_again, at_map}
 use Rattle.vsd_rule.specs.declared.key.Key.{Key}
-use Rattle.vsd_rule.specs.declared.cast_view.CastView.{CastView}
 use Rattle.vsd_rule.specs.declared.row_view.RowView.{RowView}
 use Rattle.vsd_rule.specs.declared.step.Act.{Act}
 use Rattle.vsd_rule.specs.declared.view.View.{View}
@@ -14,17 +13,17 @@ use Rattle.vsd_rule.specs.declared.view.Who.{Who}
 use Rattle.vsd_rule.specs.declared.view.Who.TheVariants.{Caller}
 use Rattle.vsd_rule.specs.Layout.{pin_at}
 use Rattle.vsd_rule.specs.Zones.{Zones, zones}
-use Rattle.vsd_rule.specs.Seats.{Seats, caller_of, is_caller}
+use Rattle.vsd_rule.specs.Seats.{Seats}
 use Rattle.vsd_rule.specs.Handles.{Handles}
 use Rattle.vsd_rule.specs.Rows.{RowSeat, Rows, TrueRowView}
 use Rattle.vsd_rule.specs.Casts.{Casts}
 use Rattle.vsd_rule.specs.Rule.{Whole, Rule, who_of, handle_seat, row_seat, cast_view}
 use Rattle.vsd_rule.specs.Facts.{SmallEpoch}
-use Rattle.vsd_rule.specs.RowSteps.{after_rows, after_epoch, after_pin, after_unpin, after_raise}
+use Rattle.vsd_rule.specs.RowSteps.{after_rows, after_epoch, after_pin, after_unpin}
 use Rattle.vsd_rule.proofs.Points.{unseen_set}
-use Rattle.vsd_rule.proofs.Windows.{pins_length, pin_word, pin_written, epoch_written}
+use Rattle.vsd_rule.proofs.Windows.{pins_length, pin_written}
 use Rattle.vsd_rule.proofs.HandleSteps.{Apart}
-use Rattle.vsd_rule.proofs.Steps.{apart_of, who_is}
+use Rattle.vsd_rule.proofs.Steps.{apart_of}
 use Rattle.vsd_rule.proofs.RowPins.{repinned_keeps, epoch_keeps}
 
 whos_of_rows : (views : List View) → map (λ (d : RowSeat). d.who) (map row_seat views) ≡ map who_of views

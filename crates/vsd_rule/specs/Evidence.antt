@@ -31,3 +31,12 @@ module _ (v : View) where
   -- or it loaded the answer from a cast row that was not being written meanwhile
   abbrev pub HasCastEvidence : Handle → Handle → Bool → Type 0
   HasCastEvidence source target answer = KnowsAnswer source target answer ⊎ ((i : ℕ) × (get_elem? v.casts.evidences i ≡ some (record { source = source; target = target; yes = answer })))
+
+-- each evidence of a call that the seat has agrees with all that it knows of the handle
+abbrev pub CallsAgree : View → Type 0
+CallsAgree v = (h : Handle) (token target number : ℕ) → HasEvidence v h token target → Knows v.handles h number → target ≡ target_of v.key number token
+
+-- each evidence of a cast that the seat has agrees with all that it knows of the two handles
+abbrev pub CastsAgree : View → Type 0
+CastsAgree v = (source target : Handle) (given : Bool) (number other : ℕ) → HasCastEvidence v source target given → Knows v.handles source number → Knows v.handles target other
+    → from_bool given ≡ compatible v.key number other

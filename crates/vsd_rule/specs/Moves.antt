@@ -1,5 +1,5 @@
 -- The views at opening, and what each step makes of its seat's view.
-use Rattle.std.specs.Prelude.{ℕ, suc, ◌+◌, ◌-◌, ◌*◌, ◌/◌, true, false, cond, List, [], ◌∷◌, ◌++◌, slice_set, replicate, None}
+use Rattle.std.specs.Prelude.{ℕ, suc, ◌+◌, ◌-◌, ◌*◌, ◌/◌, true, false, cond, List, [], ◌∷◌, slice_set, replicate, None}
 use Rattle.vsd_words.specs.declared.handle_word.HandleWord.{HandleWord}
 use Rattle.vsd_words.specs.HandleWord.{packed_handle_word}
 use Rattle.vsd_rule.specs.declared.key.Key.{Key}

@@ -8,6 +8,7 @@ use Rattle.vsd_rule.specs.declared.row_view.KnownWords.{KnownWords}
 use Rattle.vsd_rule.specs.declared.row_view.ProtectedRow.{ProtectedRow}
 use Rattle.vsd_rule.specs.declared.row_view.Keeping.TheVariants.{Private, Unlinked}
 use Rattle.vsd_rule.specs.declared.row_view.KeptRow.{KeptRow}
+use Rattle.vsd_rule.specs.declared.row_view.RetiredRow.{RetiredRow}
 use Rattle.vsd_rule.specs.declared.step.RowWord.{RowWord}
 use Rattle.vsd_rule.specs.declared.step.RowWord.TheVariants as word
 use Rattle.vsd_rule.specs.declared.view.View.{View}
@@ -29,10 +30,29 @@ pub record IsFilled (v : View) (row : ℕ) (h : Handle) (token target : ℕ) : T
   pub stored : keeping_of row v.rows.kept ≡ Private (all_words h token target)
   pub evidence : HasEvidence v h token target
 
+-- what a private row needs to be published: in the cell of a site, with the site's token
+pub record IsFilledFor (v : View) (row site : ℕ) : Type 0 where
+  pub handle : Handle
+  pub target : ℕ
+  pub filled : IsFilled v row handle (site_token v.key site) target
+
+-- in a bucket
+pub record IsFilledRow (v : View) (row : ℕ) : Type 0 where
+  pub handle : Handle
+  pub token : ℕ
+  pub target : ℕ
+  pub filled : IsFilled v row handle token target
+
 -- the latest step that moved a row took this one out of its cell or bucket
 pub record Leaves (v : View) (row : ℕ) : Type 0 where
   pub others : List KeptRow
   pub latest : v.rows.kept ≡ record { row = row; keeping = Unlinked } ∷ others
+
+-- the row is the oldest in limbo
+pub record IsOldest (v : View) (row : ℕ) : Type 0 where
+  pub epoch : ℕ
+  pub others : List RetiredRow
+  pub queue : v.rows.limbo ≡ record { row = row; epoch = epoch } ∷ others
 
 -- what each of a row's words can be
 abbrev pub RowWordInRange : RowWord → ℕ → Type 0

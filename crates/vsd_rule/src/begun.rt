@@ -1,9 +1,8 @@
 ghost use Rattle.std.specs.Prelude.{◌≡◌, List, [], ◌∷◌};
 ghost use Rattle.std.specs.Borrow.{ftrue};
 ghost use Rattle.vsd_rule.specs.declared.step.Begins.{Begins};
-ghost use Rattle.vsd_rule.specs.declared.step.Begins.TheVariants.{Operation};
 
-use crate::step::Doing;
+use crate::step::Begins;
 use std::marker::Model;
 
 /// What a seat has begun since opening, the latest first, for contracts alone: it has no bytes. A
@@ -26,9 +25,9 @@ impl Begun {
         Begun {}
     }
 
-    /// The list with one more operation.
-    pub fn and(&self, _doing: &Doing) -> Begun
-        ensures { result.items ≡ Operation _doing.now ∷ self.now.items }
+    /// The list with one more.
+    pub fn and(&self, _begins: &Begins) -> Begun
+        ensures { result.items ≡ _begins.now ∷ self.now.items }
     {
         Begun {}
     }

@@ -12,6 +12,7 @@ pub enum Doing {
 
 /// What a seat begins with a load that carries no word of it: a load of the epoch begins an
 /// operation, and a load of the region a cast.
+#[derive(Clone, Copy, PartialEq, Eq, Debug)]
 pub enum Begins {
     Operation(Doing),
     Cast { source: Handle, target: Handle },

@@ -1,7 +1,6 @@
 -- Each step on the epoch and on the own epoch word may be made.
-use Rattle.std.proofs.Common.{◌≡◌, ℕ, ◌+◌, Some, List, get_or, set, ap, sym, refl, ◌∙◌, subst, arith, true}
+use Rattle.std.proofs.Common.{◌≡◌, ℕ, ◌+◌, Some, get_or, set, ap, sym, refl, ◌∙◌, subst, arith, true}
 use Rattle.vsd_rule.specs.declared.key.Key.{Key}
-use Rattle.vsd_rule.specs.declared.sizes.Sizes.{Sizes}
 use Rattle.vsd_rule.specs.declared.view.View.{View}
 use Rattle.vsd_rule.specs.declared.view.Who.TheVariants.{Caller}
 use Rattle.vsd_rule.specs.Layout.{pin_at}
@@ -11,13 +10,15 @@ use Rattle.vsd_rule.specs.Rule.{Rule}
 use Rattle.vsd_rule.specs.RowSteps.{after_epoch, after_pin, after_unpin}
 use Rattle.vsd_rule.proofs.Steps.{who_is}
 use Rattle.vsd_rule.proofs.Windows.{epoch_word}
+use Rattle.vsd_rule.proofs.RuleByClaims.{calls_agree}
 use Rattle.vsd_rule.proofs.RuleByRows.{epoch_small, load_epoch_keeps, pin_keeps, unpin_keeps}
-use Rattle.vsd_table.specs.EpochKinds.{load_epoch, pin, unpin, PinnedAt}
+use Rattle.vsd_table.specs.EpochKinds.{load_epoch, pin, unpin}
 use Rattle.vsd_table.specs.Seating.{key_of, view_of, Belongs}
 use Rattle.vsd_table.specs.Stepping.{MayLoad, MayStore}
 use Rattle.vsd_table.specs.declared.shared.Shared.{Shared}
 use Rattle.vsd_table.specs.declared.seated.Seated.{Seated}
 use Rattle.vsd_table.proofs.Kept.{Unique, may_load, may_store}
+use Rattle.vsd_table.proofs.Seats.{there_now}
 
 epoch_unique : Unique load_epoch
 epoch_unique s v x y word a b fits fits' = refl
@@ -63,9 +64,13 @@ module _ (table : Shared) (seated : Seated) (belongs : Belongs table seated) whe
     })
 
     pub may_unpin : MayStore unpin table seated index 0
-    may_unpin = may_store unpin unpin_unique table seated index caller belongs there tt 0 refl refl (λ words views rule at. record {
-      after = after_unpin v;
-      same = record { key = refl; who = refl };
-      rule = subst (λ (i : ℕ). Rule k (set words i 0) (set views seated.seat.id (after_unpin v))) (sym there) (unpin_keeps k words views rule seated.seat.id v at caller who);
-      tells = refl;
-    })
+    may_unpin = may_store unpin unpin_unique table seated index caller belongs there tt 0 refl refl (λ words views rule at.
+        let id : ℕ = seated.seat.id in
+        let after : View = after_unpin v in
+        let kept : Rule k (set words index 0) (set views id after) = subst (λ (i : ℕ). Rule k (set words i 0) (set views id after)) (sym there) (unpin_keeps k words views rule id v at caller who) in
+        record {
+          after = after;
+          same = record { key = refl; who = refl };
+          rule = kept;
+          tells = record { view = refl; agree = calls_agree k (set words index 0) (set views id after) kept id after (there_now views id v after at) };
+        })

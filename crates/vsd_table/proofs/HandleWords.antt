@@ -1,8 +1,5 @@
 -- Each step on handle words may be made: it keeps the rule, and tells what its kind says.
-use Rattle.std.proofs.Common.{◌≡◌, ℕ, ◌+◌, ◌<◌, true, false, List, [], ◌∷◌, length, get_or, set, ap, sym, refl, ◌∙◌, subst, arith}
-use mathlib.Core.Option.{some, some-ne-none}
-use lib.ListN.{get_elem?}
-use Rattle.atomic_table.proofs.Lists.{set_here}
+use Rattle.std.proofs.Common.{◌≡◌, ℕ, ◌+◌, ◌<◌, true, false, get_or, set, ap, sym, refl, subst, arith}
 use Rattle.vsd_words.specs.declared.handle_word.HandleWord.{HandleWord}
 use Rattle.vsd_words.specs.HandleWord.{HandleWordInRange, packed_handle_word, IsHandleWordPacking}
 use Rattle.vsd_words.proofs.Packings.{packed_handle_word-one_to_one, handle_word_packing-one_to_one}
@@ -15,13 +12,12 @@ use Rattle.vsd_rule.specs.Rule.{Rule}
 use Rattle.vsd_rule.specs.Moves.{own_index, after_load_handle, after_bind, after_unbind}
 use Rattle.vsd_rule.specs.Facts.{IsOwn, FindsHandle}
 use Rattle.vsd_rule.proofs.Steps.{load_keeps, load_tells, loaded_packing, tells_one_binding, bind_keeps, bind_tells_new, unbind_keeps}
-use Rattle.vsd_table.specs.StepKind.{Kind}
 use Rattle.vsd_table.specs.HandleKinds.{load_handle, bind, unbind, OwnWord}
 use Rattle.vsd_table.specs.Seating.{key_of, view_of, Belongs}
 use Rattle.vsd_table.specs.Stepping.{MayLoad, MayStore}
 use Rattle.vsd_table.specs.declared.shared.Shared.{Shared}
 use Rattle.vsd_table.specs.declared.seated.Seated.{Seated}
-use Rattle.vsd_table.proofs.Kept.{Unique, Keeps, may_load, may_store}
+use Rattle.vsd_table.proofs.Kept.{Unique, may_load, may_store}
 use Rattle.vsd_table.proofs.Seats.{there_now}
 
 load_unique : Unique load_handle

@@ -1,11 +1,11 @@
 -- A step of a kind may be made where it keeps the rule and tells what its kind says of what it is given.
-use Rattle.std.proofs.Common.{◌≡◌, ◌≢◌, ℕ, ◌+◌, ◌%◌, ◌^◌, List, get_or, set, ap, sym, refl, ◌∙◌, subst}
+use Rattle.std.proofs.Common.{◌≡◌, ◌≢◌, ℕ, ◌+◌, ◌%◌, ◌^◌, List, get_or, set, sym, ◌∙◌, subst}
 use Rattle.std.proofs.lemmas.List.{set-get_or}
-use mathlib.Core.Option.{some, none}
+use mathlib.Core.Option.{some}
 use prog.Atomic.{either}
 use Rattle.std.specs.Prelude.{◌==◌}
 use lib.ListN.{get_elem?}
-use Rattle.atomic_table.specs.Table.{State, Me, step, keeps}
+use Rattle.atomic_table.specs.Table.{keeps}
 use Rattle.atomic_table.proofs.Lists.{exchanged}
 use Rattle.vsd_rule.specs.declared.key.Key.{Key}
 use Rattle.vsd_rule.specs.declared.sizes.Sizes.{Sizes}
@@ -92,5 +92,5 @@ module _ (kind : Kind) (unique : Unique kind) (table : Shared) (seated : Seated)
       → MayExchange kind table seated index old new
   may_exchange old new a b won lost = may (λ n. either (n == old) new n) old new a b
       (λ words views rule at. exchanged (get_or words index 0) old new (λ (n : ℕ). Keeps kind k (set words index n) views id v x (get_or words index 0))
-          (won words views rule at)
-          (λ ne. subst (λ (ws : List ℕ). Keeps kind k ws views id v x (get_or words index 0)) (sym (set-get_or words index 0)) (lost words views rule at ne)))
+      (won words views rule at)
+      (λ ne. subst (λ (ws : List ℕ). Keeps kind k ws views id v x (get_or words index 0)) (sym (set-get_or words index 0)) (lost words views rule at ne)))

@@ -97,13 +97,13 @@ module _ (table : Shared) (seated : Seated) (belongs : Belongs table seated) (ro
           same = record { key = refl; who = refl };
           rule = subst (λ (i : ℕ). Rule k (set words i 1) (set views id (after_claim v row 0))) (sym there)
               (claim_won k words views rule id v at row small (ap (λ (i : ℕ). get_or words i 0) (sym there) ∙ found));
-          tells = ap (after_claim v row) (sym found);
+          tells = record { view = ap (after_claim v row) (sym found); in_range = omega arith };
         })
         (λ words views rule at other. record {
           after = after_claim v row (get_or words index 0);
           same = record { key = refl; who = refl };
           rule = claim_lost k words views rule id v at row small (get_or words index 0) other;
-          tells = refl;
+          tells = record { view = refl; in_range = subst (λ (i : ℕ). get_or words i 0 < 2) (sym there) (found_in_range k words views rule id v at row small Claim) };
         })
 
     pub may_free : IsPrivate v row → MayStore free table seated index 0

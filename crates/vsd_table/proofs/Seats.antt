@@ -1,5 +1,5 @@
 -- What stays true of a seat over a step, and where its rows are.
-use Rattle.std.proofs.Common.{◌≡◌, ℕ, zero, suc, ◌+◌, ◌<◌, Bool, List, [], ◌∷◌, length, set, ap, sym, ◌∙◌, subst, arith}
+use Rattle.std.proofs.Common.{◌≡◌, ℕ, zero, suc, ◌<◌, Bool, List, [], ◌∷◌, length, set, ap, sym, subst, arith}
 use mathlib.Core.Option.{some, some-ne-none}
 use lib.ListN.{get_elem?}
 use Rattle.atomic_table.proofs.Lists.{set_here}
@@ -7,13 +7,11 @@ use Rattle.vsd_words.specs.declared.handle_word.HandleWord.{HandleWord}
 use Rattle.vsd_words.specs.HandleWord.{HandleWordInRange, IsHandleWordPacking, packed_handle_word}
 use Rattle.vsd_rule.specs.declared.begun.Begun.{Begun}
 use Rattle.vsd_rule.specs.declared.key.Key.{Key}
-use Rattle.vsd_rule.specs.declared.sizes.Sizes.{Sizes}
-use Rattle.vsd_table.specs.declared.shared.Shared.{Shared}
 use Rattle.vsd_table.specs.declared.seated.Seated.{Seated}
-use Rattle.vsd_table.specs.Seating.{key_of, view_of, Belongs, Becomes}
+use Rattle.vsd_table.specs.Seating.{view_of, Becomes}
 use Rattle.vsd_table.specs.Stepping.{StaysSeat}
 use Rattle.vsd_rule.specs.declared.view.View.{View}
-use Rattle.vsd_rule.specs.Layout.{handles_from, handle_rows}
+use Rattle.vsd_rule.specs.Layout.{handle_rows}
 use Rattle.vsd_rule.specs.Seats.{caller_of}
 use Rattle.vsd_rule.specs.Handles.{own_word}
 use Rattle.vsd_rule.specs.Facts.{IsOwn}

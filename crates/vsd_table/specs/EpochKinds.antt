@@ -2,6 +2,7 @@
 use Rattle.std.specs.Prelude.{◌≡◌, ℕ, ◌+◌, ◌≤◌, ◌^◌}
 use Rattle.vsd_rule.specs.declared.view.View.{View}
 use Rattle.vsd_rule.specs.Layout.{pin_at}
+use Rattle.vsd_rule.specs.Evidence.{CallsAgree}
 use Rattle.vsd_rule.specs.RowSteps.{after_epoch, after_pin, after_unpin}
 use Rattle.vsd_table.specs.StepKind.{Kind}
 
@@ -34,6 +35,10 @@ pin = record {
   Tells = λ before x found after. after ≡ after_pin before x.epoch;
 }
 
+pub record Unpinned (before after : View) : Type 0 where
+  pub view : after ≡ after_unpin before
+  pub agree : CallsAgree after
+
 abbrev pub unpin : Kind
 unpin = record {
   Given = ℕ;
@@ -41,5 +46,5 @@ unpin = record {
   first = λ caller. 0;
   second = λ caller. 0;
   Fits = λ v caller. Unit {0};
-  Tells = λ before caller found after. after ≡ after_unpin before;
+  Tells = λ before caller found after. Unpinned before after;
 }

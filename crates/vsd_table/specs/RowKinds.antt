@@ -3,11 +3,16 @@ use Rattle.std.specs.Prelude.{◌≡◌, ℕ}
 use Rattle.vsd_words.specs.declared.handle.Handle.{Handle}
 use Rattle.vsd_words.specs.Handle.{HandleInRange, packed_handle}
 use Rattle.vsd_rule.specs.declared.step.RowWord.{RowWord}
+use Rattle.vsd_rule.specs.declared.step.RowWord.TheVariants.{Claim}
 use Rattle.vsd_rule.specs.declared.view.View.{View}
 use Rattle.vsd_rule.specs.Layout.{row_word_at}
 use Rattle.vsd_rule.specs.RowSteps.{offset_of, after_claim, after_set_handle, after_set_token, after_set_target, after_free, after_row_word}
 use Rattle.vsd_rule.specs.RowFacts.{RowWordInRange, FindsAgain}
 use Rattle.vsd_table.specs.StepKind.{Kind}
+
+pub record TriedToClaim (before : View) (row found : ℕ) (after : View) : Type 0 where
+  pub view : after ≡ after_claim before row found
+  pub in_range : RowWordInRange Claim found
 
 -- an exchange of the claim word from free to claimed
 abbrev pub claim : Kind
@@ -17,7 +22,7 @@ claim = record {
   first = λ row. 0;
   second = λ row. 1;
   Fits = λ v row. Unit {0};
-  Tells = λ before row found after. after ≡ after_claim before row found;
+  Tells = TriedToClaim;
 }
 
 -- ---- a load

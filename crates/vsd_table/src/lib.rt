@@ -3,9 +3,17 @@
 //! says exactly what it makes of its seat's view, and takes no memory.
 #![tactic(auto)]
 
+mod bucket_kinds;
+mod buckets;
+mod cast_kinds;
+mod casts;
+mod cell_kinds;
+mod cells;
 mod epoch_kinds;
 mod handle_kinds;
 mod handles;
+mod limbo;
+mod limbo_kinds;
 mod offsets;
 mod opening;
 mod pinning;

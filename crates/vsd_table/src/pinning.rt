@@ -1,12 +1,13 @@
 //! The steps by which a caller pins itself at the epoch and unpins itself.
 ghost use Rattle.std.specs.Prelude.{◌≡◌, ◌≤◌, ◌^◌, Some};
+ghost use Rattle.vsd_rule.specs.Evidence.{CallsAgree};
 ghost use Rattle.vsd_rule.specs.RowSteps.{after_epoch, after_pin, after_unpin};
 ghost use Rattle.vsd_table.specs.Seating.{view_of, Belongs, Becomes, BecomesDoing};
 
 use crate::epoch_kinds::{LoadEpoch, Pin, Unpin};
 use crate::seated::Seated;
 use crate::shared::Shared;
-use vsd_rule::Doing;
+use vsd_rule::{Begins, Doing};
 
 impl Seated {
     /// Loads the epoch, and begins this operation. `Doing::Nothing` begins none.
@@ -18,7 +19,7 @@ impl Seated {
         ensures small { result ≤ 2 ^ 62 }
     {
         let found = self.load::<LoadEpoch>(table, 0);
-        self.begun = self.begun.and(&doing);
+        self.begun = self.begun.and(&Begins::Operation(doing));
         found
     }
 
@@ -36,13 +37,15 @@ impl Seated {
         self.store::<Pin>(table, index, epoch + 1);
     }
 
-    /// Unpins the caller: stores 0 in its epoch word. It protects no row any more.
+    /// Unpins the caller: stores 0 in its epoch word. It protects no row any more. All evidence that
+    /// it has for answers to calls agrees with all that it knows of handles.
     #[inline]
     pub fn unpin(&mut self, table: &Shared)
         requires seat { Belongs table.now self.old }
         requires pinned { ¬ ((view_of self.old).rows.pinned ≡ 0) }
         ensures step { Becomes self.old self.new (after_unpin (view_of self.old)) }
         ensures seat { Belongs table.now self.new }
+        ensures agree { CallsAgree (view_of self.new) }
     {
         let index = table.pin_index(self.caller);
         self.store::<Unpin>(table, index, 0);

@@ -19,6 +19,7 @@ impl Seated {
         requires seat { Belongs table.now self.old }
         requires row { row < (key_of table.now).sizes.rows }
         ensures won { IsTrue result.0 ↔ result.1 ≡ 0 }
+        ensures in_range { result.1 < 2 }
         ensures step { Becomes self.old self.new (after_claim (view_of self.old) row result.1) }
         ensures seat { Belongs table.now self.new }
     {
