@@ -1,1 +1,2 @@
 pub mod Retired
+pub mod Makes
