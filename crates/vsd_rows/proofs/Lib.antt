@@ -1,2 +1,4 @@
 pub mod Makes
 pub mod StepsMade
+pub mod Filling
+pub mod Sweeping

@@ -1,6 +1,17 @@
 -- How what calls make is put together: one step before a program, a program before another, a look at the fields, a branch.
-use Rattle.std.proofs.Common.{◌≡◌, ℕ, Bool, true, false, List, [], ◌∷◌, ◌++◌, append_assoc, refl, sym, ◌∙◌, ap, subst}
+use Rattle.std.proofs.Common.{◌≡◌, ◌<◌, ◌⊎◌, inl, inr, ℕ, suc, Bool, true, false, List, [], ◌∷◌, ◌++◌, append_assoc, refl, sym, ◌∙◌, ap, subst}
+use mathlib.Core.Option.{some}
+use lib.ListN.{get_elem?}
+use Rattle.vsd_words.specs.declared.handle.Handle.{Handle}
 use Rattle.vsd_rule.specs.declared.key.Key.{Key}
+use Rattle.vsd_rule.specs.declared.handle_view.Binding.{Binding}
+use Rattle.vsd_rule.specs.declared.handle_view.HandleView.{HandleView}
+use Rattle.vsd_rule.specs.declared.row_view.Evidence.{Evidence}
+use Rattle.vsd_rule.specs.declared.view.View.{View}
+use Rattle.vsd_rule.specs.Handles.{binding_for}
+use Rattle.vsd_rule.specs.Lists.{target_of}
+use Rattle.vsd_rule.specs.Facts.{Knows}
+use Rattle.vsd_rule.specs.Evidence.{HasEvidence}
 use Rattle.vsd_table.specs.declared.seated.Seated.{Seated}
 use Rattle.vsd_table.specs.Seating.{view_of}
 use Rattle.vsd_trails.specs.Programs.{Fields, TrailStep, Asked, Program, done, look, ask, bind, when◌then◌else◌, asked_of, fields_at, after_step, after_steps, Runs, onto}
@@ -30,6 +41,29 @@ stays_on first second = record {
   bindings = grows_on first.bindings second.bindings;
   evidences = grows_on first.evidences second.evidences;
 }
+
+-- what is there stays there
+pub there_still : {A : Type 0} (more old : List A) (i : ℕ) (a : A) → get_elem? old i ≡ some a → (j : ℕ) × (get_elem? (more ++ old) j ≡ some a)
+there_still [] old i a at = (i, at)
+there_still (x ∷ xs) old i a at = let r = there_still xs old i a at in (suc r.0, r.1)
+
+pub in_grown : {A : Type 0} (old new : List A) (a : A) → Grows A old new → (i : ℕ) × (get_elem? old i ≡ some a) → (j : ℕ) × (get_elem? new j ≡ some a)
+in_grown {A = A} old new a g there =
+    let r = there_still g.more old there.0 a there.1 in
+    (r.0, subst (λ (l : List A). get_elem? l r.0 ≡ some a) (sym g.whole) r.1)
+
+pub knows_on : (n m : HandleView) (h : Handle) (number : ℕ) → Grows Binding n.bindings m.bindings → Knows n h number → Knows m h number
+knows_on n m h number g knows = in_grown n.bindings m.bindings (binding_for h number) g knows
+
+pub evidence_on : (v w : View) (h : Handle) (token target : ℕ) → w.key ≡ v.key → Grows Binding v.handles.bindings w.handles.bindings → Grows Evidence v.rows.evidences w.rows.evidences
+    → HasEvidence v h token target → HasEvidence w h token target
+evidence_on v w h token target key bindings evidences (inl known) = inl (record {
+  number = known.number;
+  knows = knows_on v.handles w.handles h known.number bindings known.knows;
+  token_in = subst (λ (k : Key). token < k.sizes.tokens) (sym key) known.token_in;
+  answer = subst (λ (k : Key). target ≡ target_of k known.number token) (sym key) known.answer;
+})
+evidence_on v w h token target key bindings evidences (inr loaded) = inr (in_grown v.rows.evidences w.rows.evidences (record { handle = h; token = token; target = target }) evidences loaded)
 
 -- ---- programs
 

@@ -21,11 +21,14 @@ use Rattle.vsd_rule.specs.declared.view.View.{View}
 use Rattle.vsd_rule.specs.declared.row_view.Keeping.TheVariants.{Elsewhere, Unlinked}
 use Rattle.vsd_rule.specs.Handles.{handle, binding_for}
 use Rattle.vsd_rule.specs.Moves.{noted, after_load_handle, after_bind, after_unbind, learnt}
-use Rattle.vsd_rule.specs.RowSteps.{keeps_row, claimed, protects_row, packed_bucket, after_rows, after_epoch, after_pin, after_unpin, after_claim, after_set_handle, after_set_token, after_set_target, after_free, after_row_word, row_word_seen, after_cell, cell_seen, after_to_dispatch, after_to_resolve, after_to_lookup, unlinked, after_count, after_bucket, bucket_seen, after_put_bucket, after_empty_bucket, came_out, after_epoch_to_retire, after_raise, after_epoch_of, swept, after_free_swept}
+use Rattle.vsd_rule.specs.RowSteps.{sees, with_handle, keeps_row, claimed, protects_row, packed_bucket, after_rows, after_epoch, after_pin, after_unpin, after_claim, after_set_handle, after_set_token, after_set_target, after_free, after_row_word, row_word_seen, after_cell, cell_seen, after_to_dispatch, after_to_resolve, after_to_lookup, unlinked, after_count, after_bucket, bucket_seen, after_put_bucket, after_empty_bucket, came_out, after_epoch_to_retire, after_raise, after_epoch_of, swept, after_free_swept}
 use Rattle.vsd_table.specs.declared.seated.Seated.{Seated}
 use Rattle.vsd_table.specs.Seating.{view_of, begun_of, Becomes, BecomesWith, BecomesDoing}
 use Rattle.vsd_trails.specs.Programs.{Fields, TrailStep, Asked, asked_act, after_act}
 use Rattle.vsd_trails.specs.Operations.{is_named, latest, trail_steps}
+use Rattle.vsd_words.specs.Handle.{IsHandlePacking}
+use Rattle.vsd_trails.proofs.Words.{handle_read}
+use Rattle.vsd_rows.specs.Hands.{after_handle}
 use Rattle.vsd_rows.specs.Makes.{steps_of, fields_of, Grows, StaysCaller}
 use Rattle.vsd_rows.proofs.Makes.{Asks, grows_not}
 
@@ -252,3 +255,14 @@ unbind_made old new row generation number b =
     plain_step old new (Unbind row generation number) 0 v.rows _ refl b
     (record { fields = refl; evidences = grows_not _ _ refl })
     (grows_not _ _ refl)
+
+-- ---- what the load of a row's handle found, as a handle
+
+pub becomes_as : {old new : Seated} {a b : View} → a ≡ b → Becomes old new a → Becomes old new b
+becomes_as same r = record { table_id = r.table_id; seat = r.seat; view = r.view ∙ same; begins = r.begins }
+
+pub handle_found : (v : View) (row found : ℕ) (h : Handle) → IsHandlePacking h found → after_row_word v row word.Handle found ≡ after_handle v row h
+handle_found v row found h packs =
+    let read = handle_read found h packs in
+    let packed = packs.packed in
+    λ c. after_rows v (sees v.rows row (with_handle (read c))) (LoadRow row word.Handle) (packed c)

@@ -43,3 +43,7 @@ pub record Makes {A : Type 0} (old new : Seated) (p : Program A) (answer : A) : 
 -- the seat's own 64 handle words stay
 abbrev pub KeepsOwn : Seated → Seated → Type 0
 KeepsOwn old new = (view_of new).handles.owned ≡ (view_of old).handles.owned
+
+-- who makes the rest of a program from here on has made the whole of it
+abbrev pub Leads : {A : Type 0} → Seated → Program A → Seated → Program A → Type 0
+Leads {A = A} old p now rest = (new : Seated) (a : A) → Makes now new rest a → Makes old new p a
