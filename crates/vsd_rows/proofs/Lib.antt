@@ -2,3 +2,4 @@ pub mod Makes
 pub mod StepsMade
 pub mod Filling
 pub mod Sweeping
+pub mod Protecting
