@@ -7,14 +7,11 @@ use Rattle.vsd_rule.specs.declared.view.View.{View}
 use Rattle.vsd_rule.specs.Handles.{owned_word}
 use Rattle.vsd_rule.specs.Moves.{own_index}
 use Rattle.vsd_rule.specs.Facts.{IsOwn}
+use Rattle.vsd_trails.specs.Words.{is_live_at}
 
 -- the row can be bound: it is not live, and its generation can still rise
 abbrev pub is_spare : HandleWord → Bool
 is_spare w = not w.live && nat_lt w.generation 4294967295
-
--- the row is live at the generation
-abbrev pub is_live_at : ℕ → HandleWord → Bool
-is_live_at generation w = w.live && (w.generation == generation)
 
 -- the word of one of the caller's own rows, as the caller knows it
 abbrev pub own_row_word : View → ℕ → HandleWord

@@ -2,6 +2,8 @@ ghost use Rattle.std.specs.Prelude.{◌≡◌, ◌<◌, ◌↔◌, ℕ, true, fa
 ghost use Rattle.vsd_rule.specs.Handles.{own_word};
 ghost use Rattle.vsd_rule.specs.Facts.{Knows};
 ghost use Rattle.vsd_table.specs.Seating.{view_of, key_of, Belongs};
+ghost use Rattle.vsd_trails.specs.UnloadTrails.{binding, unbinding};
+ghost use Rattle.vsd_rows.specs.Makes.{Makes};
 ghost use Rattle.vsd_handles.specs.Owned.{AreWordsOf};
 ghost use Rattle.vsd_handles.specs.Binding.{Binds, Unbinds};
 ghost use Rattle.vsd_handles.specs.OwnRows.{IsOwned, IsNext, is_spare, own_row_word};
@@ -34,6 +36,7 @@ pub fn bind(
     ensures unchanged { OnErr result ((hand.new ≡ hand.old) × (owned.new ≡ owned.old)) }
 
     ensures next { IfOk result (IsNext (view_of hand.old.seated)) }
+    ensures trail { IfOk result (λ h. Makes hand.old.seated hand.new.seated (binding h t) h) }
     ensures step { IfOk result (Binds hand.old.seated hand.new.seated t) }
 
     // The handle is new to the caller, which then owns it and knows its type.
@@ -69,6 +72,7 @@ pub fn unbind(table: &Shared, hand: &mut Hand, owned: &mut Owned, h: Handle)
     requires seat { Belongs table.now hand.old.seated }
     requires words { AreWordsOf owned.old hand.old }
     requires owned { IsOwned (view_of hand.old.seated) h }
+    ensures trail { Makes hand.old.seated hand.new.seated (unbinding h) tt }
     ensures step { Unbinds hand.old.seated hand.new.seated h }
     ensures word { own_row_word (view_of hand.new.seated) h.row
         ≡ own_word h.generation (own_row_word (view_of hand.old.seated) h.row).number false }

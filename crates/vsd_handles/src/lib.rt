@@ -18,7 +18,8 @@ mod types;
 
 pub use binding::{HandlesFull, bind, unbind};
 pub use owned::{Owned, owns};
-pub use types::{Unloaded, type_of};
+pub use types::type_of;
+pub use vsd_trails::Unloaded;
 
 #[cfg(test)]
 mod tests;

@@ -1,1 +1,4 @@
 pub mod Retired
+pub mod Makes
+pub mod Hands
+pub mod Sweeps

@@ -1,0 +1,5 @@
+pub mod Makes
+pub mod StepsMade
+pub mod Filling
+pub mod Sweeping
+pub mod Protecting
