@@ -1,3 +1,4 @@
+//! Binding and unbinding handles.
 ghost use Rattle.std.specs.Prelude.{◌≡◌, ◌<◌, ◌↔◌, ℕ, true, false, None, IfOk, IsErr, OnErr, position};
 ghost use Rattle.vsd_rule.specs.Handles.{own_word};
 ghost use Rattle.vsd_rule.specs.Facts.{Knows};

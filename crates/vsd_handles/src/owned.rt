@@ -1,3 +1,4 @@
+//! A caller's own handle words.
 ghost use Rattle.std.specs.Prelude.{◌≡◌, ◌↔◌, IsTrue};
 ghost use Rattle.vsd_table.specs.Seating.{view_of};
 ghost use Rattle.vsd_handles.specs.Owned.{AreWordsOf};

@@ -30,8 +30,8 @@ is_filled v row h token target evidence =
     let two = after_set_token one row token in
     record {
       stored = keeping_here row _ two.rows.kept
-        ∙ ap (λ (q : Keeping). Private (with_target target (words_stored q))) (keeping_here row _ one.rows.kept
-        ∙ ap (λ (q : Keeping). Private (with_token token (words_stored q))) (keeping_here row _ v.rows.kept));
+          ∙ ap (λ (q : Keeping). Private (with_target target (words_stored q))) (keeping_here row _ one.rows.kept
+          ∙ ap (λ (q : Keeping). Private (with_token token (words_stored q))) (keeping_here row _ v.rows.kept));
       evidence = evidence_on v (after_fill v row h token target) h token target refl (grows_not _ _ refl) (grows_not _ _ refl) evidence;
     }
 

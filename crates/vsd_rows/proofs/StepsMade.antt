@@ -51,7 +51,7 @@ plain_step old new act found d n unnamed b m learns =
     record {
       step = x;
       made = (λ c. trail_steps (b.view c).steps (b.begins c))
-        ∙ ap (λ (named : Bool). cond named (record { step = x.step; begins = latest (begun_of old) } ∷ trail_steps v.steps (drop 1 (begun_of old))) (x ∷ trail_steps v.steps (begun_of old))) unnamed;
+          ∙ ap (λ (named : Bool). cond named (record { step = x.step; begins = latest (begun_of old) } ∷ trail_steps v.steps (drop 1 (begun_of old))) (x ∷ trail_steps v.steps (begun_of old))) unnamed;
       asked = refl;
       word = refl;
       at = refl;
