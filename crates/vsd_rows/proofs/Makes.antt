@@ -113,6 +113,17 @@ answers {A = A} {old = old} {new = new} {p = p} same m = subst (λ (x : A). Make
 
 -- ---- one step
 
+one_read : {A B : Type 0} (k : Key) (f : Fields) (c : Asked) (read : ℕ → A) (g : A → B) (xs : List TrailStep) (a : A)
+    → Runs k f (ask c (λ (word : ℕ). done (read word))) xs a → Runs k f (ask c (λ (word : ℕ). done (g (read word)))) xs (g a)
+one_read k f c read g [] a runs = absurd runs
+one_read k f c read g (x ∷ []) a runs = (runs.0, runs.1, ap g runs.2)
+one_read k f c read g (x ∷ y ∷ ys) a runs = absurd runs.2
+
+-- one step, of which more is read
+pub reads_as : {A B : Type 0} {old new : Seated} {c : Asked} {a : A} (read : ℕ → A) (g : A → B) → Makes old new (ask c (λ (word : ℕ). done (read word))) a → Makes old new (ask c (λ (word : ℕ). done (g (read word)))) (g a)
+reads_as {old = old} {c = c} {a = a} read g m =
+    record { trail = m.trail; made = m.made; runs = one_read (view_of old).key (fields_of old) c read g m.trail a m.runs; fields = m.fields; stays = m.stays }
+
 -- the seat made one step, which was asked for, and found this word
 pub record Asks (old new : Seated) (c : Asked) (found : ℕ) : Type 0 where
   pub step : TrailStep

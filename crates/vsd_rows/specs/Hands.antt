@@ -2,6 +2,7 @@
 use Rattle.std.specs.Prelude.{◌≡◌, ℕ, ◌+◌, ◌<◌, Bool, true, false, cond, List, [], ◌∷◌, ◌++◌, Option, Some, None}
 use Rattle.vsd_words.specs.declared.handle.Handle.{Handle}
 use Rattle.vsd_words.specs.Handle.{packed_handle}
+use Rattle.vsd_rule.specs.declared.row_view.KnownWords.{KnownWords}
 use Rattle.vsd_rule.specs.declared.row_view.ProtectedRow.{ProtectedRow}
 use Rattle.vsd_rule.specs.declared.row_view.RetiredRow.{RetiredRow}
 use Rattle.vsd_rule.specs.declared.row_view.RowView.{RowView}
@@ -26,6 +27,11 @@ pub record IsProtected (v : View) (row : ℕ) : Type 0 where
   pub pinned : 0 < v.rows.pinned
   pub latest : ProtectedRow
   pub there : protected_of row v.rows.protected ≡ Some latest
+
+-- the latest that the pinned caller has seen of a row that it protects
+pub record HasSeen (v : View) (row : ℕ) (site : Option ℕ) (seen : KnownWords) : Type 0 where
+  pub pinned : 0 < v.rows.pinned
+  pub there : protected_of row v.rows.protected ≡ Some (record { row = row; site = site; seen = seen })
 
 -- the load of the row's handle found this one
 abbrev pub after_handle : View → ℕ → Handle → View

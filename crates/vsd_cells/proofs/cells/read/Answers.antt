@@ -8,7 +8,7 @@ use Rattle.vsd_trails.proofs.Words.{cell_read}
 use Rattle.vsd_rows.specs.Hands.{IsProtected}
 use Rattle.vsd_rows.proofs.Makes.{reads, answers}
 use Rattle.vsd_rows.proofs.StepsMade.{cell_made}
-use Rattle.vsd_rows.proofs.Protecting.{cell_protects}
+use Rattle.vsd_rows.proofs.Protecting.{cell_seen_row, seen_protected}
 use Rattle.vsd_cells.proofs.cells.read.Goals as goal
 
 pub returns-clause-trail : goal.returns-clause-trail
@@ -18,4 +18,4 @@ pub returns-clause-protects : goal.returns-clause-protects
 returns-clause-protects c = λ row names.
     let v = view_of c.args.hand.now.seated in
     subst (λ (w : View). IsProtected w row) (sym (c.cell.ensures.step.view ∙ ap (λ (w : CellWord). after_cell v c.args.site w) names))
-    (cell_protects v c.args.site row c.requires.pinned)
+    (seen_protected _ row _ _ (cell_seen_row v c.args.site row c.requires.pinned))
