@@ -1,10 +1,5 @@
-<<<<<<< ours
--- A caller's own 64 handle rows, and what it knows of their words.
-use Rattle.std.specs.Prelude.{◌≡◌, ℕ, ◌+◌, ◌&&◌, ◌==◌, Bool, true, not, nat_lt, Some, position}
-=======
 -- A caller's own 64 rows of handles, and what it knows of their words.
 use Rattle.std.specs.Prelude.{◌≡◌, ℕ, ◌+◌, ◌&&◌, Bool, true, not, nat_lt, Some, position}
->>>>>>> theirs
 use Rattle.vsd_words.specs.declared.handle.Handle.{Handle}
 use Rattle.vsd_words.specs.declared.handle_word.HandleWord.{HandleWord}
 use Rattle.vsd_words.specs.Handle.{HandleInRange}
