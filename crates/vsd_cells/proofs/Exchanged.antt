@@ -23,7 +23,7 @@ pub stays_private : (v w : View) (site row : ℕ) (found : CellWord) → w ≡ a
 stays_private v w site row found step lost private = (
   private.0,
   ap (λ (x : View). keeping_of row x.rows.kept) step
-  ∙ (ap (λ (won : Bool). keeping_of row (cond won (keeps_row v.rows row Elsewhere) v.rows).kept) lost ∙ private.1),
+      ∙ (ap (λ (won : Bool). keeping_of row (cond won (keeps_row v.rows row Elsewhere) v.rows).kept) lost ∙ private.1),
 )
 
 -- the row that was taken out leaves

@@ -1,10 +1,10 @@
 -- A caller's own 64 rows of handles, and what it knows of their words.
-use Rattle.std.specs.Prelude.{◌≡◌, ℕ, ◌+◌, ◌&&◌, ◌==◌, Bool, true, not, nat_lt, Some, position, replicate}
+use Rattle.std.specs.Prelude.{◌≡◌, ℕ, ◌+◌, ◌&&◌, Bool, true, not, nat_lt, Some, position}
 use Rattle.vsd_words.specs.declared.handle.Handle.{Handle}
 use Rattle.vsd_words.specs.declared.handle_word.HandleWord.{HandleWord}
 use Rattle.vsd_words.specs.Handle.{HandleInRange}
 use Rattle.vsd_rule.specs.declared.view.View.{View}
-use Rattle.vsd_rule.specs.Handles.{owned_word, blank_word}
+use Rattle.vsd_rule.specs.Handles.{owned_word}
 use Rattle.vsd_rule.specs.Moves.{own_index}
 use Rattle.vsd_rule.specs.Facts.{IsOwn}
 use Rattle.vsd_trails.specs.Words.{is_live_at}

@@ -1,8 +1,6 @@
 -- What filling a row, retiring one and freeing one make of the caller's hand.
-use Rattle.std.proofs.Common.{◌≡◌, ℕ, zero, suc, ◌<◌, Bool, true, false, nat_eq, List, [], ◌∷◌, ◌++◌, map, Option, Some, None, ◌↔◌, IsTrue, refl, sym, ◌∙◌, ap, subst, eq-eqb, ne_eqb}
+use Rattle.std.proofs.Common.{◌≡◌, ℕ, zero, suc, ◌<◌, Bool, true, false, nat_eq, List, [], ◌∷◌, ◌++◌, map, ◌↔◌, IsTrue, refl, ◌∙◌, ap, subst, eq-eqb, ne_eqb}
 use Rattle.std.proofs.lemmas.List.{map-append}
-use mathlib.Core.Option.{some, none}
-use lib.ListN.{get_elem?}
 use Rattle.vsd_words.specs.declared.handle.Handle.{Handle}
 use Rattle.vsd_rule.specs.declared.key.Key.{Key}
 use Rattle.vsd_rule.specs.declared.row_view.Keeping.{Keeping}
@@ -10,7 +8,7 @@ use Rattle.vsd_rule.specs.declared.row_view.Keeping.TheVariants.{Private}
 use Rattle.vsd_rule.specs.declared.row_view.RetiredRow.{RetiredRow}
 use Rattle.vsd_rule.specs.declared.view.View.{View}
 use Rattle.vsd_rule.specs.Evidence.{HasEvidence}
-use Rattle.vsd_rule.specs.RowSteps.{words_stored, with_handle, with_token, with_target, after_set_handle, after_set_token}
+use Rattle.vsd_rule.specs.RowSteps.{words_stored, with_token, with_target, after_set_handle, after_set_token}
 use Rattle.vsd_rule.specs.RowFacts.{IsPrivate, IsFilled}
 use Rattle.vsd_rule.proofs.RowMoves.{keeping_here}
 use Rattle.vsd_rows.proofs.Makes.{grows_not, evidence_on}
@@ -30,8 +28,8 @@ is_filled v row h token target evidence =
     let two = after_set_token one row token in
     record {
       stored = keeping_here row _ two.rows.kept
-        ∙ ap (λ (q : Keeping). Private (with_target target (words_stored q))) (keeping_here row _ one.rows.kept
-        ∙ ap (λ (q : Keeping). Private (with_token token (words_stored q))) (keeping_here row _ v.rows.kept));
+          ∙ ap (λ (q : Keeping). Private (with_target target (words_stored q))) (keeping_here row _ one.rows.kept
+          ∙ ap (λ (q : Keeping). Private (with_token token (words_stored q))) (keeping_here row _ v.rows.kept));
       evidence = evidence_on v (after_fill v row h token target) h token target refl (grows_not _ _ refl) (grows_not _ _ refl) evidence;
     }
 

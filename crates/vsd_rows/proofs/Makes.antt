@@ -1,5 +1,5 @@
 -- How what calls make is put together: one step before a program, a program before another, a look at the fields, a branch.
-use Rattle.std.proofs.Common.{◌≡◌, ◌<◌, ◌⊎◌, inl, inr, ℕ, suc, Bool, true, false, List, [], ◌∷◌, ◌++◌, append_assoc, refl, sym, ◌∙◌, ap, subst}
+use Rattle.std.proofs.Common.{◌≡◌, ◌<◌, inl, inr, ℕ, suc, Bool, true, false, List, [], ◌∷◌, ◌++◌, append_assoc, refl, sym, ◌∙◌, ap, subst}
 use mathlib.Core.Option.{some}
 use lib.ListN.{get_elem?}
 use Rattle.vsd_words.specs.declared.handle.Handle.{Handle}
@@ -76,12 +76,12 @@ pub joined : {A B : Type 0} {old now new : Seated} {p : Program A} {a : A} {b : 
 joined {old = old} {now = now} {new = new} {p = p} {a = a} {b = b} g first second =
     let k = (view_of old).key in
     let runs : Runs k (after_steps k (fields_of old) first.trail) (g a) second.trail b =
-        subst (λ (f : Fields). Runs k f (g a) second.trail b) first.fields
-        (subst (λ (l : Key). Runs l (fields_of now) (g a) second.trail b) first.stays.key second.runs) in
+    subst (λ (f : Fields). Runs k f (g a) second.trail b) first.fields
+    (subst (λ (l : Key). Runs l (fields_of now) (g a) second.trail b) first.stays.key second.runs) in
     let fields : fields_of new ≡ after_steps k (after_steps k (fields_of old) first.trail) second.trail =
-        second.fields
-        ∙ (ap (λ (l : Key). after_steps l (fields_of now) second.trail) first.stays.key
-        ∙ ap (λ (f : Fields). after_steps k f second.trail) first.fields) in
+    second.fields
+    ∙ (ap (λ (l : Key). after_steps l (fields_of now) second.trail) first.stays.key
+    ∙ ap (λ (f : Fields). after_steps k f second.trail) first.fields) in
     record {
       trail = first.trail ++ second.trail;
       made = second.made ∙ (ap (λ (l : List TrailStep). onto second.trail l) first.made ∙ sym (onto_after first.trail second.trail (steps_of old)));
@@ -139,16 +139,16 @@ pub asks : {A : Type 0} {old now new : Seated} {c : Asked} {found : ℕ} {a : A}
 asks {A = A} {old = old} {now = now} {new = new} {c = c} {found = found} {a = a} p s m =
     let k = (view_of old).key in
     let runs : Runs k (after_step k (fields_of old) s.step) (p s.step.step.found) m.trail a =
-        subst (λ (word : ℕ). Runs k (after_step k (fields_of old) s.step) (p word) m.trail a) (sym s.word)
-        (subst (λ (f : Fields). Runs k f (p found) m.trail a) s.fields
-        (subst (λ (l : Key). Runs l (fields_of now) (p found) m.trail a) s.stays.key m.runs)) in
+    subst (λ (word : ℕ). Runs k (after_step k (fields_of old) s.step) (p word) m.trail a) (sym s.word)
+    (subst (λ (f : Fields). Runs k f (p found) m.trail a) s.fields
+    (subst (λ (l : Key). Runs l (fields_of now) (p found) m.trail a) s.stays.key m.runs)) in
     record {
       trail = s.step ∷ m.trail;
       made = m.made ∙ ap (λ (l : List TrailStep). onto m.trail l) s.made;
       runs = (s.asked, s.at, runs);
       fields = m.fields
-        ∙ (ap (λ (l : Key). after_steps l (fields_of now) m.trail) s.stays.key
-        ∙ ap (λ (f : Fields). after_steps k f m.trail) s.fields);
+          ∙ (ap (λ (l : Key). after_steps l (fields_of now) m.trail) s.stays.key
+          ∙ ap (λ (f : Fields). after_steps k f m.trail) s.fields);
       stays = stays_on s.stays m.stays;
     }
 

@@ -1,12 +1,10 @@
 -- A pinned caller protects the row that it loaded from a cell or a bucket, and what it loads of the row is evidence.
-use Rattle.std.proofs.Common.{◌≡◌, ℕ, ◌<◌, Bool, true, false, cond, nat_eq, nat_lt, List, [], ◌∷◌, ◌++◌, Option, Some, None, inr, refl, sym, ◌∙◌, ap, subst, eq-eqb, lt-ltb}
-use mathlib.Core.Option.{some}
+use Rattle.std.proofs.Common.{◌≡◌, ℕ, ◌<◌, Bool, true, false, cond, nat_eq, nat_lt, List, [], ◌∷◌, ◌++◌, Option, Some, None, inr, refl, ◌∙◌, ap, eq-eqb, lt-ltb}
 use lib.ListN.{get_elem?}
 use Rattle.vsd_words.specs.declared.handle.Handle.{Handle}
 use Rattle.vsd_words.specs.declared.cell_word.CellWord.TheVariants.{Dispatch}
 use Rattle.vsd_rule.specs.declared.row_view.KnownWords.{KnownWords}
 use Rattle.vsd_rule.specs.declared.row_view.ProtectedRow.{ProtectedRow}
-use Rattle.vsd_rule.specs.declared.row_view.Evidence.{Evidence}
 use Rattle.vsd_rule.specs.declared.step.RowWord.TheVariants as word
 use Rattle.vsd_rule.specs.declared.view.View.{View}
 use Rattle.vsd_rule.specs.Evidence.{HasEvidence}
@@ -66,8 +64,10 @@ pub target_evidence : (v : View) (row : ℕ) (site : Option ℕ) (seen : KnownWo
     → HasEvidence (after_row_word v row word.Target target) h token target
 target_evidence v row site seen h token target has handle its_token =
     let old = v.rows.evidences in
-    inr (0,
-        ap (λ (b : Bool). get_elem? (cond b (evidence_of v.key (protected_of row v.rows.protected) target) [] ++ old) 0) (lt-ltb 0 v.rows.pinned has.pinned)
-        ∙ (ap (λ (o : Option ProtectedRow). get_elem? (evidence_of v.key o target ++ old) 0) has.there
-        ∙ (ap (λ (o : Option Handle). get_elem? (evidence_by o (token_or_site v.key seen.token site) target ++ old) 0) handle
-        ∙ ap (λ (o : Option ℕ). get_elem? (evidence_by (Some h) o target ++ old) 0) its_token)))
+    inr (
+      0,
+      ap (λ (b : Bool). get_elem? (cond b (evidence_of v.key (protected_of row v.rows.protected) target) [] ++ old) 0) (lt-ltb 0 v.rows.pinned has.pinned)
+          ∙ (ap (λ (o : Option ProtectedRow). get_elem? (evidence_of v.key o target ++ old) 0) has.there
+          ∙ (ap (λ (o : Option Handle). get_elem? (evidence_by o (token_or_site v.key seen.token site) target ++ old) 0) handle
+          ∙ ap (λ (o : Option ℕ). get_elem? (evidence_by (Some h) o target ++ old) 0) its_token)),
+    )

@@ -1,5 +1,5 @@
 -- Each kind of step on rows, cells, buckets and handles, as a step that a program asks for.
-use Rattle.std.proofs.Common.{◌≡◌, ℕ, Bool, true, false, cond, List, [], ◌∷◌, ◌++◌, nat_eq, nat_lt, drop, Option, Some, None, refl, sym, ◌∙◌, ap, subst}
+use Rattle.std.proofs.Common.{◌≡◌, ℕ, Bool, true, false, cond, List, [], ◌∷◌, nat_eq, drop, Option, Some, None, refl, sym, ◌∙◌, ap, subst}
 use Rattle.vsd_words.specs.declared.handle.Handle.{Handle}
 use Rattle.vsd_words.specs.declared.handle_word.HandleWord.{HandleWord}
 use Rattle.vsd_words.specs.declared.cell_word.CellWord.{CellWord}
@@ -20,16 +20,16 @@ use Rattle.vsd_rule.specs.declared.step.Doing.{Doing}
 use Rattle.vsd_rule.specs.declared.view.View.{View}
 use Rattle.vsd_rule.specs.declared.row_view.Keeping.TheVariants.{Elsewhere, Unlinked}
 use Rattle.vsd_rule.specs.Handles.{handle, binding_for}
-use Rattle.vsd_rule.specs.Moves.{noted, after_load_handle, after_bind, after_unbind, learnt}
-use Rattle.vsd_rule.specs.RowSteps.{sees, with_handle, keeps_row, claimed, protects_row, packed_bucket, after_rows, after_epoch, after_pin, after_unpin, after_claim, after_set_handle, after_set_token, after_set_target, after_free, after_row_word, row_word_seen, after_cell, cell_seen, after_to_dispatch, after_to_resolve, after_to_lookup, unlinked, after_count, after_bucket, bucket_seen, after_put_bucket, after_empty_bucket, came_out, after_epoch_to_retire, after_raise, after_epoch_of, swept, after_free_swept}
+use Rattle.vsd_rule.specs.Moves.{noted, after_load_handle, after_bind, after_unbind}
+use Rattle.vsd_rule.specs.RowSteps.{sees, with_handle, keeps_row, claimed, packed_bucket, after_rows, after_epoch, after_pin, after_unpin, after_claim, after_set_handle, after_set_token, after_set_target, after_free, after_row_word, row_word_seen, after_cell, cell_seen, after_to_dispatch, after_to_resolve, after_to_lookup, after_count, after_bucket, bucket_seen, after_put_bucket, after_empty_bucket, came_out, after_epoch_to_retire, after_raise, after_epoch_of, swept, after_free_swept}
 use Rattle.vsd_table.specs.declared.seated.Seated.{Seated}
-use Rattle.vsd_table.specs.Seating.{view_of, begun_of, Becomes, BecomesWith, BecomesDoing}
+use Rattle.vsd_table.specs.Seating.{view_of, begun_of, Becomes, BecomesDoing}
 use Rattle.vsd_trails.specs.Programs.{Fields, TrailStep, Asked, asked_act, after_act}
 use Rattle.vsd_trails.specs.Operations.{is_named, latest, trail_steps}
 use Rattle.vsd_words.specs.Handle.{IsHandlePacking}
 use Rattle.vsd_trails.proofs.Words.{handle_read}
 use Rattle.vsd_rows.specs.Hands.{after_handle}
-use Rattle.vsd_rows.specs.Makes.{steps_of, fields_of, Grows, StaysCaller}
+use Rattle.vsd_rows.specs.Makes.{Grows}
 use Rattle.vsd_rows.proofs.Makes.{Asks, grows_not}
 
 abbrev fields_in : RowView → Fields
@@ -51,7 +51,7 @@ plain_step old new act found d n unnamed b m learns =
     record {
       step = x;
       made = (λ c. trail_steps (b.view c).steps (b.begins c))
-        ∙ ap (λ (named : Bool). cond named (record { step = x.step; begins = latest (begun_of old) } ∷ trail_steps v.steps (drop 1 (begun_of old))) (x ∷ trail_steps v.steps (begun_of old))) unnamed;
+          ∙ ap (λ (named : Bool). cond named (record { step = x.step; begins = latest (begun_of old) } ∷ trail_steps v.steps (drop 1 (begun_of old))) (x ∷ trail_steps v.steps (begun_of old))) unnamed;
       asked = refl;
       word = refl;
       at = refl;

@@ -1,5 +1,5 @@
 -- The parts of a search for a free row and of a sweep of limbo.
-use Rattle.std.proofs.Common.{min, map, slice_get, remove, ◌≡◌, ℕ, zero, suc, ◌+◌, ◌<◌, Bool, true, false, not, nat_eq, cond, List, [], ◌∷◌, Option, Some, None, refl, sym, ◌∙◌, ap, subst, eq-eqb, ne_eqb, arith, ◌&&◌}
+use Rattle.std.proofs.Common.{min, map, slice_get, remove, ◌≡◌, ℕ, zero, suc, ◌+◌, ◌<◌, Bool, true, false, nat_eq, cond, List, [], ◌∷◌, Option, Some, None, refl, sym, ◌∙◌, ap, subst, eq-eqb, ne_eqb, arith, ◌&&◌}
 use Rattle.vsd_rule.specs.declared.key.Key.{Key}
 use Rattle.vsd_rule.specs.declared.row_view.RetiredRow.{RetiredRow}
 use Rattle.vsd_rule.specs.declared.row_view.RowView.{RowView}

@@ -1,10 +1,9 @@
 -- What the calls on rows make of what their caller knows, and what they ask of it.
-use Rattle.std.specs.Prelude.{◌≡◌, ℕ, ◌+◌, ◌<◌, Bool, true, false, cond, List, [], ◌∷◌, ◌++◌, Option, Some, None}
+use Rattle.std.specs.Prelude.{◌≡◌, ℕ, ◌<◌, Bool, true, false, Option, Some, None}
 use Rattle.vsd_words.specs.declared.handle.Handle.{Handle}
 use Rattle.vsd_words.specs.Handle.{packed_handle}
 use Rattle.vsd_rule.specs.declared.row_view.KnownWords.{KnownWords}
 use Rattle.vsd_rule.specs.declared.row_view.ProtectedRow.{ProtectedRow}
-use Rattle.vsd_rule.specs.declared.row_view.RetiredRow.{RetiredRow}
 use Rattle.vsd_rule.specs.declared.row_view.RowView.{RowView}
 use Rattle.vsd_rule.specs.declared.row_view.Keeping.TheVariants.{Elsewhere}
 use Rattle.vsd_rule.specs.declared.step.Doing.{Doing}

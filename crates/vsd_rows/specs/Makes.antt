@@ -1,13 +1,10 @@
 -- What a call makes: steps of its caller's seat that are a whole run of a program, and what stays of the seat over them.
-use Rattle.std.specs.Prelude.{◌≡◌, ℕ, List, ◌∷◌, ◌++◌, Option, None}
-use Rattle.vsd_rule.specs.declared.key.Key.{Key}
+use Rattle.std.specs.Prelude.{◌≡◌, List, ◌++◌}
 use Rattle.vsd_rule.specs.declared.handle_view.Binding.{Binding}
 use Rattle.vsd_rule.specs.declared.row_view.Evidence.{Evidence}
-use Rattle.vsd_rule.specs.declared.step.Act.{Act}
-use Rattle.vsd_rule.specs.declared.view.View.{View}
 use Rattle.vsd_table.specs.declared.seated.Seated.{Seated}
 use Rattle.vsd_table.specs.Seating.{view_of, begun_of}
-use Rattle.vsd_trails.specs.Programs.{Fields, TrailStep, Asked, Program, asked_of, fields_at, after_step, after_steps, Runs, onto}
+use Rattle.vsd_trails.specs.Programs.{Fields, TrailStep, Program, after_steps, Runs, onto}
 use Rattle.vsd_trails.specs.Operations.{trail_steps}
 
 -- all steps that the seat has made, the latest first, with what each began

@@ -5,7 +5,6 @@ use Rattle.vsd_rule.specs.declared.row_view.RetiredRow.{RetiredRow}
 use Rattle.vsd_rule.specs.declared.view.View.{View}
 use Rattle.vsd_rule.specs.RowSteps.{is_clear}
 use Rattle.vsd_table.specs.declared.seated.Seated.{Seated}
-use Rattle.vsd_table.specs.Seating.{view_of}
 use Rattle.vsd_trails.specs.declared.answers.Swept.{Swept}
 use Rattle.vsd_trails.specs.declared.answers.Swept.TheVariants.{Empty, Blocked, Freed}
 use Rattle.vsd_trails.specs.RowTrails.{passing}

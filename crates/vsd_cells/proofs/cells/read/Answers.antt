@@ -1,4 +1,4 @@
-use Rattle.std.proofs.Common.{◌≡◌, ℕ, sym, ◌∙◌, ap, subst}
+use Rattle.std.proofs.Common.{sym, ◌∙◌, ap, subst}
 use Rattle.vsd_words.specs.declared.cell_word.CellWord.{CellWord}
 use Rattle.vsd_rule.specs.declared.view.View.{View}
 use Rattle.vsd_rule.specs.RowSteps.{after_cell}

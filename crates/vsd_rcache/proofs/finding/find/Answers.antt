@@ -1,4 +1,4 @@
-use Rattle.std.proofs.Common.{◌≡◌, ℕ, None, Some, subst}
+use Rattle.std.proofs.Common.{ℕ, subst}
 use Rattle.vsd_table.specs.Seating.{view_of}
 use Rattle.vsd_trails.specs.declared.answers.Found.TheVariants.{Empty}
 use Rattle.vsd_trails.specs.RowTrails.{looking}

@@ -1,8 +1,7 @@
-use Rattle.std.proofs.Common.{◌≡◌, ◌&&◌, nat_eq, true, false, None, sym, ◌∙◌, subst}
+use Rattle.std.proofs.Common.{None, sym, ◌∙◌, subst}
 use Rattle.vsd_rule.specs.declared.view.View.{View}
 use Rattle.vsd_rule.specs.RowSteps.{nothing_known, with_handle}
 use Rattle.vsd_table.specs.Seating.{view_of}
-use Rattle.vsd_trails.specs.Words.{same_handle}
 use Rattle.vsd_rows.specs.Hands.{HasSeen}
 use Rattle.vsd_rows.proofs.Protecting.{handle_seen, seen_protected}
 use Rattle.vsd_rcache.proofs.Pairs.{finds_on, handle_finds, token_finds, target_finds, finds_pair, finds_other, pair_seen, pair_told, pair_other}

@@ -1,6 +1,4 @@
-use Rattle.std.proofs.Common.{◌≡◌, ◌+◌, ◌-◌, ◌<◌, min, ℕ, zero, suc, Bool, true, false, Option, Some, None, sym, ap, subst, ◌∙◌, arith}
-use Rattle.vsd_rule.specs.declared.sizes.Sizes.{Sizes}
-use Rattle.vsd_rule.specs.declared.view.View.{View}
+use Rattle.std.proofs.Common.{◌≡◌, ◌+◌, ◌-◌, ◌<◌, min, ℕ, zero, suc, Bool, Some, None, subst, arith}
 use Rattle.vsd_table.specs.Seating.{view_of, key_of}
 use Rattle.vsd_trails.specs.RowTrails.{claiming_from}
 use Rattle.vsd_rows.specs.Makes.{Makes}

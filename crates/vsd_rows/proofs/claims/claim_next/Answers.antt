@@ -1,4 +1,4 @@
-use Rattle.std.proofs.Common.{ℕ, Bool, true, false, nat_eq, eq-eqb, ne_eqb, sym}
+use Rattle.std.proofs.Common.{ℕ, Bool, false, nat_eq, eq-eqb, ne_eqb, sym}
 use Rattle.vsd_rule.specs.declared.step.Act.TheVariants.{Claim}
 use Rattle.vsd_trails.specs.Programs.{done, when◌then◌else◌}
 use Rattle.vsd_trails.specs.RowTrails.{trying, claiming_row}

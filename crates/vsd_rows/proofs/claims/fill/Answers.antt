@@ -25,7 +25,7 @@ returns-clause-trail c =
 pub returns-clause-filled : goal.returns-clause-filled
 returns-clause-filled c =
     let view = c.set_target.ensures.step.view
-        ∙ ap (λ (v : View). after_set_target v c.args.row c.args.target) (c.set_token.ensures.step.view
-        ∙ ap (λ (v : View). after_set_token v c.args.row c.args.token) c.set_handle.ensures.step.view) in
+    ∙ ap (λ (v : View). after_set_target v c.args.row c.args.target) (c.set_token.ensures.step.view
+    ∙ ap (λ (v : View). after_set_token v c.args.row c.args.token) c.set_handle.ensures.step.view) in
     subst (λ (v : View). IsFilled v c.args.row c.args.h c.args.token c.args.target) (sym view)
     (is_filled (view_of c.args.hand.now.seated) c.args.row c.args.h c.args.token c.args.target c.requires.evidence)

@@ -1,5 +1,4 @@
-use Rattle.std.proofs.Common.{◌≡◌, ◌+◌, ◌-◌, ◌<◌, ℕ, suc, true, false, sym, ap, subst, ◌∙◌, arith}
-use Rattle.vsd_rule.specs.declared.row_view.RetiredRow.{RetiredRow}
+use Rattle.std.proofs.Common.{◌≡◌, ◌-◌, ◌<◌, suc, true, false, sym, ap, subst, ◌∙◌, arith}
 use Rattle.vsd_rule.specs.declared.sizes.Sizes.{Sizes}
 use Rattle.vsd_rule.specs.declared.view.View.{View}
 use Rattle.vsd_rule.specs.RowSteps.{is_clear}

@@ -1,4 +1,4 @@
-use Rattle.std.proofs.Common.{◌≡◌, List, [], ◌∷◌, ◌++◌, ℕ, ◌^◌, nat_lt, Bool, true, false, sym, ap, subst, ◌∙◌, lt-ltb, le-ltb}
+use Rattle.std.proofs.Common.{◌≡◌, List, [], ◌∷◌, ◌++◌, ℕ, ◌^◌, nat_lt, sym, ap, subst, ◌∙◌, lt-ltb, le-ltb}
 use Rattle.vsd_rule.specs.declared.step.Act.TheVariants.{Raise}
 use Rattle.vsd_rule.specs.declared.view.View.{View}
 use Rattle.vsd_rule.specs.declared.key.Key.{Key}

@@ -1,9 +1,8 @@
-use Rattle.std.proofs.Common.{◌≡◌, ◌<◌, ℕ, List, [], ◌∷◌, map, sym, ap, subst, ◌∙◌}
+use Rattle.std.proofs.Common.{◌<◌, List, map, sym, ap, subst, ◌∙◌}
 use Rattle.vsd_rule.specs.declared.key.Key.{Key}
-use Rattle.vsd_rule.specs.declared.row_view.RetiredRow.{RetiredRow}
 use Rattle.vsd_rule.specs.declared.view.View.{View}
 use Rattle.vsd_rule.specs.RowSteps.{without_oldest}
-use Rattle.vsd_table.specs.Seating.{view_of, key_of}
+use Rattle.vsd_table.specs.Seating.{view_of}
 use Rattle.vsd_rows.specs.declared.limbo.Limbo.{Limbo}
 use Rattle.vsd_rows.specs.Retired.{retired_row, AreInTable}
 use Rattle.vsd_rows.proofs.Sweeping.{sweeps_nothing, sweeps_first, frees_first, queue_of, first_removed, others_in_table, first_in_table, sweeps_freed}

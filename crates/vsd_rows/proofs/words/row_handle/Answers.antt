@@ -1,4 +1,4 @@
-use Rattle.std.proofs.Common.{◌≡◌, ℕ, IfSome, subst}
+use Rattle.std.proofs.Common.{◌≡◌, IfSome, subst}
 use Rattle.vsd_words.specs.declared.handle.Handle.{Handle}
 use Rattle.vsd_rule.specs.RowSteps.{unpacked_handle}
 use Rattle.vsd_trails.proofs.Words.{handle_read}
