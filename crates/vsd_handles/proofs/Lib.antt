@@ -1,2 +1,2 @@
-pub mod Openings
+-- Lemmas that several proofs of this crate share.
 pub mod Spares

@@ -1,3 +1,4 @@
+//! A caller's own handle words.
 ghost use Rattle.std.specs.Prelude.{◌≡◌, ◌↔◌, IsTrue};
 ghost use Rattle.vsd_table.specs.Seating.{view_of};
 ghost use Rattle.vsd_handles.specs.Owned.{AreWordsOf};
@@ -15,7 +16,7 @@ const BLANK: HandleWord = HandleWord {
     live: false,
 };
 
-/// The words of the caller's own 64 rows of handles, as the caller last stored them. Contracts see
+/// The words of the caller's own 64 handle rows, as the caller last stored them. Contracts see
 /// the list of them.
 #[derive(Drop)]
 pub struct Owned {
@@ -35,8 +36,9 @@ impl Model for Owned {
 
 impl Owned {
     ghost use Rattle.std.specs.Prelude.{◌<◌, IfSome, position, replicate, slice_index_or, slice_set};
-    ghost use Rattle.vsd_rule.specs.Names.{blank_word};
-    ghost use Rattle.vsd_handles.specs.OwnRows.{HasBoundNone, is_spare};
+    ghost use Rattle.vsd_rule.specs.Handles.{blank_word};
+    ghost use Rattle.vsd_rule.specs.Facts.{HasBoundNone};
+    ghost use Rattle.vsd_handles.specs.OwnRows.{is_spare};
 
     /// The words of a caller that has bound no row: all 64 are 0.
     pub fn new(hand: &Hand) -> Owned
@@ -47,30 +49,30 @@ impl Owned {
         Owned { words: [BLANK; 64] }
     }
 
-    /// The lowest place whose row is neither live nor worn out.
+    /// The lowest index whose row is neither live nor worn out.
     pub(crate) fn spare(&self) -> Option<usize>
         ensures first { result ≡ position is_spare self.now }
-        ensures within { IfSome result (λ place. place < 64) }
+        ensures within { IfSome result (λ index. index < 64) }
     {
         self.words
             .iter()
             .position(|word| !word.live && word.generation < u32::MAX)
     }
 
-    /// The word of the row at a place.
-    pub(crate) fn word(&self, place: usize) -> HandleWord
-        requires { place < 64 }
-        ensures { result ≡ slice_index_or self.now place blank_word }
+    /// The word of the row at a index.
+    pub(crate) fn word(&self, index: usize) -> HandleWord
+        requires { index < 64 }
+        ensures { result ≡ slice_index_or self.now index blank_word }
     {
-        self.words[place]
+        self.words[index]
     }
 
-    /// Notes the word that was stored in the row at a place.
-    pub(crate) fn note(&mut self, place: usize, word: HandleWord)
-        requires { place < 64 }
-        ensures { self.new ≡ slice_set self.old place word }
+    /// Notes the word that was stored in the row at a index.
+    pub(crate) fn note(&mut self, index: usize, word: HandleWord)
+        requires { index < 64 }
+        ensures { self.new ≡ slice_set self.old index word }
     {
-        self.words[place] = word;
+        self.words[index] = word;
     }
 }
 
@@ -80,12 +82,12 @@ pub fn owns(owned: &Owned, hand: &Hand, h: Handle) -> bool
     requires { AreWordsOf owned.now hand.now }
     ensures { IsTrue result ↔ IsOwned (view_of hand.now.seated) h }
 {
-    let Some(place) = h.row.checked_sub(hand.seated.first_row()) else {
+    let Some(index) = h.row.checked_sub(hand.seated.first_row()) else {
         return false;
     };
-    if place >= 64 {
+    if index >= 64 {
         return false;
     }
-    let word = owned.word(usize::from(place));
+    let word = owned.word(usize::from(index));
     word.live && word.generation == h.generation
 }

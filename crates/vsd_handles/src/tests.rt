@@ -1,7 +1,8 @@
-ghost use Rattle.std.specs.Prelude.{◌≡◌, [], IfSome};
+//! Tests of what no clause says.
+ghost use Rattle.std.specs.Prelude.{[], All, IfSome};
 ghost use Rattle.std.proofs.Common.{rules};
-ghost use Rattle.vsd_table.specs.Seating.{view_of, Belongs, AreSeatsOf};
-ghost use Rattle.vsd_handles.specs.OwnRows.{HasBoundNone};
+ghost use Rattle.vsd_table.specs.Seating.{view_of, IsNew, Belongs};
+ghost use Rattle.vsd_rule.specs.Facts.{HasBoundNone};
 
 use super::*;
 use std::test::Fail;
@@ -50,7 +51,7 @@ fn is_sent<T: Send>(_value: &T) {}
 
 /// The hand of the last caller of a table.
 fn last_hand(table: &Shared, seats: &mut Vec<Seated>) -> Option<Hand>
-    requires { AreSeatsOf table.now seats.old.items }
+    requires { All (IsNew table.now) seats.old.items }
     ensures seat { IfSome result (λ hand. Belongs table.now hand.seated) }
     ensures none_bound { IfSome result (λ hand. HasBoundNone (view_of hand.seated)) }
 {

@@ -154,16 +154,16 @@ module _ (ds : List Decl) (places depths : List ℕ) (from : ℕ) (chain : List 
   chain-deeper k (suc l) n m at_n at_m below =
       elim (slice_get_cases chain l).1 [
         | inl w ↦ (
-          let last = (chain-step l w.0 m w.2 at_m).deeper in
-          elim (cases_lt k l) [
-            | inl lt ↦ omega (arith, last, chain-deeper k l n w.0 at_n w.2 lt)
-            | inr ge ↦ (
-              let same_level : k ≡ l = omega arith in
-              let same : n ≡ w.0 = let both = sym at_n ∙ ap (slice_get chain) same_level ∙ w.2 in cc in
-              omega (arith, last, ap (λ (i : ℕ). get_or depths i 0) same)
+            let last = (chain-step l w.0 m w.2 at_m).deeper in
+            elim (cases_lt k l) [
+              | inl lt ↦ omega (arith, last, chain-deeper k l n w.0 at_n w.2 lt)
+              | inr ge ↦ (
+                  let same_level : k ≡ l = omega arith in
+                  let same : n ≡ w.0 = let both = sym at_n ∙ ap (slice_get chain) same_level ∙ w.2 in cc in
+                  omega (arith, last, ap (λ (i : ℕ). get_or depths i 0) same)
+                  )
+            ]
             )
-          ]
-        )
         | inr past ↦ absurd (omega (arith, past.0, slice_get_within chain (suc l) m at_m))
       ]
 
@@ -173,11 +173,11 @@ module _ (ds : List Decl) (places depths : List ℕ) (from : ℕ) (chain : List 
       elim (cases_order k l) [
         | inl same ↦ same
         | inr other ↦ (
-          elim other [
-            | inl lt ↦ absurd (omega (arith, chain-deeper k l n n at_k at_l lt))
-            | inr gt ↦ absurd (omega (arith, chain-deeper l k n n at_l at_k gt))
-          ]
-        )
+            elim other [
+              | inl lt ↦ absurd (omega (arith, chain-deeper k l n n at_k at_l lt))
+              | inr gt ↦ absurd (omega (arith, chain-deeper l k n n at_l at_k gt))
+            ]
+            )
       ]
 
   -- terms can be lifted along a chain
@@ -263,16 +263,16 @@ chain-same ds from one other is is' (suc level) =
     let before = chain-same ds from one other is is' level in
     elim (slice_get_cases one level).1 [
       | inl w ↦ (
-        let here : slice_get other level ≡ Some w.0 = sym before ∙ w.2 in
-        ap (slice_get one) (sym (add-one level)) ∙ sym (is.next level w.0 w.2) ∙ is'.next level w.0 here ∙ ap (slice_get other) (add-one level)
-      )
+          let here : slice_get other level ≡ Some w.0 = sym before ∙ w.2 in
+          ap (slice_get one) (sym (add-one level)) ∙ sym (is.next level w.0 w.2) ∙ is'.next level w.0 here ∙ ap (slice_get other) (add-one level)
+          )
       | inr past ↦ (
-        let there : slice_get other level ≡ None = sym before ∙ past.1 in
-        elim (slice_get_cases other level).1 [
-          | inl w ↦ absurd (let both = sym there ∙ w.2 in cc)
-          | inr gone ↦ slice_get_past one (suc level) (omega (arith, past.0)) ∙ sym (slice_get_past other (suc level) (omega (arith, gone.0)))
-        ]
-      )
+          let there : slice_get other level ≡ None = sym before ∙ past.1 in
+          elim (slice_get_cases other level).1 [
+            | inl w ↦ absurd (let both = sym there ∙ w.2 in cc)
+            | inr gone ↦ slice_get_past one (suc level) (omega (arith, past.0)) ∙ sym (slice_get_past other (suc level) (omega (arith, gone.0)))
+          ]
+          )
     ]
 
 -- two lists with the same element at each place are one

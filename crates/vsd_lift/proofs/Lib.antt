@@ -1,3 +1,4 @@
+-- Lemmas that several proofs of this crate share.
 pub mod ChainLemmas
 pub mod Forms
 pub mod LiftLaws

@@ -1,3 +1,4 @@
+-- Lemmas that several proofs of this crate share.
 pub mod AbstractLemmas
 pub mod BodyLaws
 pub mod LinkLemmas

@@ -1,3 +1,4 @@
+-- What contracts of this crate cite.
 pub mod Bodies
 pub mod Final
 pub mod Levels

@@ -1,2 +1,5 @@
-pub mod Opening
-pub mod Waits
+-- What contracts of this crate cite.
+pub mod Retired
+pub mod Makes
+pub mod Hands
+pub mod Sweeps

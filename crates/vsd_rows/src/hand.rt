@@ -1,7 +1,10 @@
-ghost use Rattle.std.specs.Prelude.{◌≡◌, ◌≤◌, map};
+//! A caller's hand.
+ghost use Rattle.std.specs.Prelude.{◌≡◌, ◌≤◌, ◌<◌, ℕ, map};
+ghost use mathlib.Core.Option.{some};
+ghost use lib.ListN.{get_elem?};
 ghost use Rattle.vsd_rule.specs.Layout.{handle_rows};
 ghost use Rattle.vsd_table.specs.Seating.{view_of};
-ghost use Rattle.vsd_rows.specs.Waits.{waiting_of};
+ghost use Rattle.vsd_rows.specs.Retired.{retired_row, AreInTable};
 
 use crate::limbo::Limbo;
 use arrayvec::ArrayVec;
@@ -16,23 +19,29 @@ pub struct Hand {
     pub cursor: u16,
     /// The rows in limbo, the oldest first.
     pub limbo: ArrayVec<Limbo, 16>,
-    pub ghost same_cursor: { cursor ≡ (view_of seated).rowing.cursor },
-    pub ghost same_limbo: { map waiting_of limbo.items ≡ (view_of seated).rowing.limbo },
+    pub ghost same_cursor: { cursor ≡ (view_of seated).rows.cursor },
+    pub ghost same_limbo: { map retired_row limbo.items ≡ (view_of seated).rows.limbo },
+    pub ghost cursor_in: { 0 < (view_of seated).key.sizes.rows → cursor < (view_of seated).key.sizes.rows },
+    pub ghost limbo_in: { AreInTable (view_of seated).key limbo.items },
+    pub ghost few_rows: { (view_of seated).key.sizes.rows ≤ 1024 },
     pub ghost few_handles: { handle_rows (view_of seated).key.sizes ≤ 1280 },
 }
 
 impl Hand {
     ghost use Rattle.std.specs.Prelude.{[]};
-    ghost use Rattle.vsd_table.specs.Seating.{Belongs};
-    ghost use Rattle.vsd_rows.specs.Opening.{IsOpening};
+    ghost use Rattle.vsd_rule.specs.Facts.{HasBoundNone};
+    ghost use Rattle.vsd_table.specs.Seating.{IsNew, Belongs};
 
     /// The hand of a seat that has made no step. Its search for free rows begins at the caller's
     /// share of them, and its limbo is empty.
     pub fn new(table: &Shared, seated: Seated) -> Hand
-        requires seat { Belongs table.now seated }
-        requires opening { IsOpening (view_of seated) }
+        requires { IsNew table.now seated }
         ensures seat { result.seated ≡ seated }
         ensures limbo { result.limbo.items ≡ [] }
+
+        // What the first calls of a caller ask.
+        ensures belongs { Belongs table.now result.seated }
+        ensures bound_none { HasBoundNone (view_of result.seated) }
     {
         let sizes = table.sizes();
         let caller = u32::from(seated.caller());

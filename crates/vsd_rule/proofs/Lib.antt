@@ -1,9 +1,25 @@
+-- Lemmas that several proofs of this crate share.
 pub mod Windows
+pub mod Numbering
 pub mod Points
-pub mod NameSteps
+pub mod HandleSteps
 pub mod Stills
 pub mod Steps
 pub mod NewSeats
 pub mod Opening
 pub mod Splits
 pub mod Laws
+pub mod RowFrames
+pub mod RowMoves
+pub mod RowPins
+pub mod RowClaims
+pub mod RowCells
+pub mod RowLooks
+pub mod RowLimbo
+pub mod CastLooks
+pub mod CastWrites
+pub mod RuleByRows
+pub mod RuleByClaims
+pub mod RuleByCells
+pub mod RuleByLimbo
+pub mod RuleByCasts

@@ -12,21 +12,21 @@ use Rattle.vsd_words.specs.HandleWord.{packed_handle_word, IsHandleWordPacking}
 use Rattle.vsd_words.specs.CastWord.{packed_cast}
 use Rattle.vsd_rule.specs.declared.sizes.Sizes.{Sizes}
 use Rattle.vsd_rule.specs.declared.key.Key.{Key}
-use Rattle.vsd_rule.specs.declared.casting.Casting.{Casting}
+use Rattle.vsd_rule.specs.declared.cast_view.CastView.{CastView}
 use Rattle.vsd_rule.specs.declared.view.View.{View}
 use Rattle.vsd_rule.specs.declared.view.Who.TheVariants.{Root, Caller}
 use Rattle.vsd_rule.specs.Layout.{cells_from, rows_from, buckets_from, handles_from, handle_rows, casts_from, cast_rows, word_count}
 use Rattle.vsd_rule.specs.Lists.{LawfulKey, host_type}
 use Rattle.vsd_rule.specs.Zones.{Zones, zones, window}
 use Rattle.vsd_rule.specs.Seats.{Seats}
-use Rattle.vsd_rule.specs.Names.{Named, Names, HandleRow, blank_word, host_word, handle, KnowsNames}
-use Rattle.vsd_rule.specs.Rows.{Rowed, Rows, Row, Place, free, Content, Minds}
-use Rattle.vsd_rule.specs.Casts.{Casts, CastRow, CastContent, MindsCasts}
-use Rattle.vsd_rule.specs.Rule.{Whole, Rule, named_of, rowed_of}
-use Rattle.vsd_rule.specs.Moves.{root_view, opening_casting}
+use Rattle.vsd_rule.specs.Handles.{HandleSeat, Handles, HandleRow, blank_word, host_word, handle, TrueHandleView}
+use Rattle.vsd_rule.specs.Rows.{RowSeat, Rows, Row, RowState, free, Content, TrueRowView}
+use Rattle.vsd_rule.specs.Casts.{Casts, CastRow, CastContent, TrueCastView}
+use Rattle.vsd_rule.specs.Rule.{Whole, Rule, handle_seat, row_seat}
+use Rattle.vsd_rule.specs.Moves.{root_view, opening_cast_view}
 use Rattle.vsd_rule.specs.Opening.{host_packing, opening_words}
 use Rattle.vsd_rule.proofs.Windows.{window_at, eighth_at}
-use Rattle.vsd_rule.proofs.NewSeats.{only, new_knows, new_minds, new_minds_casts}
+use Rattle.vsd_rule.proofs.NewSeats.{only, new_true_handle_view, new_true_row_view, new_true_cast_view}
 
 -- the first n words of a list are 0
 abbrev Blank : ℕ → List ℕ → Type 0
@@ -43,7 +43,7 @@ opening_seats s = record {
   in_range = λ i number e. let is = (only (Root 0) (Caller number) i e).1 in absurd (cc);
 }
 
--- ---- names
+-- ---- handles
 
 module _ (k : Key) where
   opening_gen : ℕ → ℕ
@@ -52,8 +52,8 @@ module _ (k : Key) where
   opening_name : ℕ → ℕ → ℕ
   opening_name row generation = host_type k row
 
-  opening_shows : ℕ → HandleWord
-  opening_shows row = cond (nat_lt row k.sizes.hosts) (host_word k row) blank_word
+  opening_handle_word : ℕ → HandleWord
+  opening_handle_word row = cond (nat_lt row k.sizes.hosts) (host_word k row) blank_word
 
   gen_of_host : (row : ℕ) → row < k.sizes.hosts → opening_gen row ≡ 1
   unfolding opening_gen
@@ -63,12 +63,12 @@ module _ (k : Key) where
   unfolding opening_gen
   gen_of_other row h = ap (λ (b : Bool). cond b 1 0) (le-ltb row k.sizes.hosts h)
 
-  shows_host : (row : ℕ) → row < k.sizes.hosts → opening_shows row ≡ host_word k row
-  unfolding opening_shows
+  shows_host : (row : ℕ) → row < k.sizes.hosts → opening_handle_word row ≡ host_word k row
+  unfolding opening_handle_word
   shows_host row h = ap (λ (b : Bool). cond b (host_word k row) blank_word) (lt-ltb row k.sizes.hosts h)
 
-  shows_other : (row : ℕ) → k.sizes.hosts ≤ row → opening_shows row ≡ blank_word
-  unfolding opening_shows
+  shows_other : (row : ℕ) → k.sizes.hosts ≤ row → opening_handle_word row ≡ blank_word
+  unfolding opening_handle_word
   shows_other row h = ap (λ (b : Bool). cond b (host_word k row) blank_word) (le-ltb row k.sizes.hosts h)
 
   -- the words of hosts, and then blank ones
@@ -83,13 +83,13 @@ module _ (k : Key) where
   unfolding packed_handle_word
   blank_packs word e = record { in_range = record { generation = omega arith; number = omega arith }; packed = e }
 
-  opening_packs : LawfulKey k → (words : List ℕ) → OpeningHandles words → (row : ℕ) → row < handle_rows k.sizes → IsHandleWordPacking (opening_shows row) (get_or words row 0)
+  opening_packs : LawfulKey k → (words : List ℕ) → OpeningHandles words → (row : ℕ) → row < handle_rows k.sizes → IsHandleWordPacking (opening_handle_word row) (get_or words row 0)
   opening_packs lawful words opened row inside = ⊎_elim
       (λ (h : row < k.sizes.hosts). subst (λ (w : HandleWord). IsHandleWordPacking w (get_or words row 0)) (sym (shows_host row h)) (host_packs lawful words opened row h))
       (λ (h : k.sizes.hosts ≤ row). subst (λ (w : HandleWord). IsHandleWordPacking w (get_or words row 0)) (sym (shows_other row h)) (blank_packs (get_or words row 0) (opened.others row h inside)))
       (cases_lt row k.sizes.hosts)
 
-  opening_handle_row : LawfulKey k → (row : ℕ) → HandleRow k opening_gen opening_name opening_shows row
+  opening_handle_row : LawfulKey k → (row : ℕ) → HandleRow k opening_gen opening_name opening_handle_word row
   unfolding opening_name
   opening_handle_row lawful row = ⊎_elim
       (λ (h : row < k.sizes.hosts). let gen = gen_of_host row h in let is = shows_host row h in record {
@@ -106,15 +106,15 @@ module _ (k : Key) where
       })
       (cases_lt row k.sizes.hosts)
 
-  opening_names : LawfulKey k → (words : List ℕ) → OpeningHandles words → Names k opening_gen opening_name words (named_of (root_view k) ∷ [])
-  opening_names lawful words opened = record {
-    shows = opening_shows;
+  opening_handles : LawfulKey k → (words : List ℕ) → OpeningHandles words → Handles k opening_gen opening_name words (handle_seat (root_view k) ∷ [])
+  opening_handles lawful words opened = record {
+    handle_word_of = opening_handle_word;
     word = opening_packs lawful words opened;
     row = λ row inside. opening_handle_row lawful row;
     host = shows_host;
     mortal = λ row h inside. ap (λ (w : HandleWord). w.immortal) (shows_other row h);
-    each = λ seat d e. subst (λ (d : Named). KnowsNames k opening_gen opening_name opening_shows d) (only (named_of (root_view k)) d seat e).1
-        (new_knows k opening_gen opening_name opening_shows lawful (Root 0) (λ row inside. opening_handle_row lawful row) shows_host (λ row h inside. shows_other row (omega arith)));
+    each = λ seat d e. subst (λ (d : HandleSeat). TrueHandleView k opening_gen opening_name opening_handle_word d) (only (handle_seat (root_view k)) d seat e).1
+        (new_true_handle_view k opening_gen opening_name opening_handle_word lawful (Root 0) (λ row inside. opening_handle_row lawful row) shows_host (λ row h inside. shows_other row (omega arith)));
   }
 
   -- ---- rows
@@ -122,7 +122,7 @@ module _ (k : Key) where
   no_content : Content
   no_content = record { handle = handle 0 0; token = 0; target = 0 }
 
-  all_free : ℕ → Place
+  all_free : ℕ → RowState
   all_free row = free
 
   none_filled : ℕ → Content
@@ -144,36 +144,36 @@ module _ (k : Key) where
     agrees = λ never. absurd never;
   }
 
-  opening_minds : (gen : ℕ → ℕ) (name : ℕ → ℕ → ℕ) (pins : List ℕ) → Blank k.sizes.callers pins → (seat : ℕ)
-      → Minds k gen name all_free none_filled 0 pins seat (rowed_of (root_view k))
+  opening_true_row_view : (gen : ℕ → ℕ) (name : ℕ → ℕ → ℕ) (pins : List ℕ) → Blank k.sizes.callers pins → (seat : ℕ)
+      → TrueRowView k gen name all_free none_filled 0 pins seat (row_seat (root_view k))
   unfolding all_free
-  opening_minds gen name pins blank seat =
-      new_minds k gen name all_free none_filled 0 pins seat (Root 0) 0 (refl, λ caller h inside. blank caller inside) (λ h. h) (λ row hold h e. absurd (cc))
+  opening_true_row_view gen name pins blank seat =
+      new_true_row_view k gen name all_free none_filled 0 pins seat (Root 0) 0 (refl, λ caller h inside. blank caller inside) (λ h. h) (λ row keeping h e. absurd (cc))
 
   opening_rows : (gen : ℕ → ℕ) (name : ℕ → ℕ → ℕ) → 0 < k.sizes.callers → (pins cells words buckets : List ℕ) → Blank k.sizes.callers pins → Blank k.sizes.sites cells
-      → Blank (4 * k.sizes.rows) words → Blank k.sizes.buckets buckets → Rows k gen name 0 pins cells words buckets (rowed_of (root_view k) ∷ [])
+      → Blank (4 * k.sizes.rows) words → Blank k.sizes.buckets buckets → Rows k gen name 0 pins cells words buckets (row_seat (root_view k) ∷ [])
   unfolding all_free
   opening_rows gen name some_caller pins cells words buckets no_pins no_cells no_words no_buckets = record {
-    place = all_free;
+    state = all_free;
     content = none_filled;
-    shows = λ site. Lookup;
+    cell_word = λ site. Lookup;
     epoch_small = omega arith;
     row = opening_row gen name some_caller words no_words;
-    keeper = λ row seat hold h e. absurd (cc);
+    keeper = λ row seat keeping h e. absurd (cc);
     cell = λ site h. record { in_range = tt; packed = no_cells site h };
     cell_names = λ site row h e. absurd (cc);
     cell_named = λ site row h e. absurd (cc);
     bucket_names = λ bucket row h e. let z = no_buckets bucket h in absurd (omega arith);
     bucket_named = λ bucket row h e. absurd (cc);
-    each = λ seat d e. subst (λ (d : Rowed). Minds k gen name all_free none_filled 0 pins seat d) (only (rowed_of (root_view k)) d seat e).1
-        (opening_minds gen name pins no_pins seat);
-    swept = λ seat other number i d e x y at there is passed oldest sees pinned same. let who = ap (λ (r : Rowed). r.who) (only (rowed_of (root_view k)) e other there).1 in absurd (cc);
+    each = λ seat d e. subst (λ (d : RowSeat). TrueRowView k gen name all_free none_filled 0 pins seat d) (only (row_seat (root_view k)) d seat e).1
+        (opening_true_row_view gen name pins no_pins seat);
+    swept = λ seat other number i d e x y at there is passed oldest sees pinned same. let who = ap (λ (r : RowSeat). r.who) (only (row_seat (root_view k)) e other there).1 in absurd (cc);
   }
 
   -- ---- casts
 
-  no_hand : ℕ → Option ℕ
-  no_hand row = None
+  no_writer : ℕ → Option ℕ
+  no_writer row = None
 
   no_cast : CastContent
   no_cast = record { source = handle 0 0; word = record { target = handle 0 0; yes = false } }
@@ -182,8 +182,8 @@ module _ (k : Key) where
   none_cast row = no_cast
 
   opening_cast_row : (gen : ℕ → ℕ) (name : ℕ → ℕ → ℕ) → 0 < k.sizes.callers → (words : List ℕ) → Blank (3 * cast_rows k.sizes) words → (row : ℕ) → row < cast_rows k.sizes
-      → CastRow k gen name no_hand none_cast words row
-  unfolding no_hand none_cast no_cast packed_handle packed_cast
+      → CastRow k gen name no_writer none_cast words row
+  unfolding no_writer none_cast no_cast packed_handle packed_cast
   opening_cast_row gen name some_caller words blank row h =
       let version : get_or words (3 * row) 0 ≡ 0 = blank (3 * row) (omega arith) in
       record {
@@ -198,16 +198,16 @@ module _ (k : Key) where
       }
 
   opening_casts : (gen : ℕ → ℕ) (name : ℕ → ℕ → ℕ) → 0 < k.sizes.callers → 0 < k.sizes.regions → (words : List ℕ) → Blank (3 * cast_rows k.sizes) words
-      → Casts k gen name 0 words (opening_casting ∷ [])
-  unfolding no_hand
+      → Casts k gen name 0 words (opening_cast_view ∷ [])
+  unfolding no_writer
   opening_casts gen name some_caller some_region words blank = record {
-    hand = no_hand;
+    writer = no_writer;
     content = none_cast;
     region_in = some_region;
     row = opening_cast_row gen name some_caller words blank;
     keeper = λ row seat h e. absurd (cc);
-    each = λ seat d e. subst (λ (d : Casting). MindsCasts k gen name no_hand none_cast words seat d) (only opening_casting d seat e).1
-        (new_minds_casts k gen name no_hand none_cast words seat (λ row h e. absurd (cc)));
+    each = λ seat d e. subst (λ (d : CastView). TrueCastView k gen name no_writer none_cast words seat d) (only opening_cast_view d seat e).1
+        (new_true_cast_view k gen name no_writer none_cast words seat (λ row h e. absurd (cc)));
   }
 
   -- ---- the words
@@ -289,9 +289,9 @@ module _ (k : Key) where
   blank_casts lawful = blank_window (opening_words k) (casts_from k.sizes) (3 * cast_rows k.sizes) (λ i h.
       ap (λ (z : ℕ). get_or (opening_words k) z 0) (omega arith) ∙ high_word lawful (handle_rows k.sizes + 1 + i) (omega arith) (omega arith))
 
-  opening_handles : LawfulKey k → OpeningHandles (zones k.sizes (opening_words k)).handles
+  opening_handle_words : LawfulKey k → OpeningHandles (zones k.sizes (opening_words k)).handles
   unfolding zones
-  opening_handles lawful = record {
+  opening_handle_words lawful = record {
     hosts = λ host h. window_at (handles_from k.sizes) (handle_rows k.sizes) host (opening_words k) (omega arith) ∙ host_word_there lawful host h;
     others = λ row past inside. window_at (handles_from k.sizes) (handle_rows k.sizes) row (opening_words k) inside ∙ high_word lawful row past (omega arith);
   }
@@ -313,9 +313,9 @@ module _ (k : Key) where
         name = opening_name;
         keyed = opening_keyed;
         seats = opening_seats s;
-        names = opening_names lawful z.handles (opening_handles lawful);
-        rows = subst (λ (epoch : ℕ). Rows k opening_gen opening_name epoch z.pins z.cells z.rows z.buckets (rowed_of (root_view k) ∷ [])) (sym epoch_zero) rows;
-        casts = subst (λ (region : ℕ). Casts k opening_gen opening_name region z.casts (opening_casting ∷ [])) (sym (region_zero lawful)) casts;
+        handles = opening_handles lawful z.handles (opening_handle_words lawful);
+        rows = subst (λ (epoch : ℕ). Rows k opening_gen opening_name epoch z.pins z.cells z.rows z.buckets (row_seat (root_view k) ∷ [])) (sym epoch_zero) rows;
+        casts = subst (λ (region : ℕ). Casts k opening_gen opening_name region z.casts (opening_cast_view ∷ [])) (sym (region_zero lawful)) casts;
       }
 
   pub opening_holds : LawfulKey k → Rule k (opening_words k) (root_view k ∷ [])

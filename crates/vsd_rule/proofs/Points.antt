@@ -1,6 +1,7 @@
 -- Functions changed at one point, and lists of which one element changes.
 use Rattle.std.proofs.Common.{◌≡◌, ◌≢◌, ℕ, List, map, set, refl, ap, ◌∙◌}
 use Rattle.std.proofs.lemmas.List.{map-set}
+use Rattle.std.specs.Prelude.{Option, Some, None, IfSome}
 use mathlib.Core.Option.{some}
 use native.Mathlib.Decide.{ℕ_discrete}
 use lib.ListN.{get_elem?}
@@ -33,3 +34,7 @@ module _ {A : Type 0} where
   -- what a change does not show is the same list
   pub unseen_set : {B : Type 0} (f : A → B) (l : List A) (i : ℕ) (v w : A) → get_elem? l i ≡ some v → f w ≡ f v → map f (set l i w) ≡ map f l
   unseen_set f l i v w at e = map-set f l i w ∙ (ap (set (map f l) i) e ∙ set_again (map f l) i (f v) (at_map f l i v at))
+
+pub if_some : {A : Type 0} (o : Option A) (P Q : A → Type 0) → ((x : A) → P x → Q x) → IfSome o P → IfSome o Q
+if_some None P Q h p = p
+if_some (Some x) P Q h p = h x p

@@ -7,25 +7,25 @@ use Rattle.std.proofs.Math.Nat.{div-lt_iff_lt-mul, mul-lt-mul_of_pos_right}
 use Rattle.atomic_table.proofs.Lists.{at_set, at_map}
 use Rattle.vsd_rule.specs.declared.sizes.Sizes.{Sizes}
 use Rattle.vsd_rule.specs.declared.key.Key.{Key}
-use Rattle.vsd_rule.specs.declared.casting.Casting.{Casting}
-use Rattle.vsd_rule.specs.declared.naming.Naming.{Naming}
-use Rattle.vsd_rule.specs.declared.rowing.Rowing.{Rowing}
-use Rattle.vsd_rule.specs.declared.rowing.Sight.{Sight}
-use Rattle.vsd_rule.specs.declared.rowing.Waiting.{Waiting}
+use Rattle.vsd_rule.specs.declared.cast_view.CastView.{CastView}
+use Rattle.vsd_rule.specs.declared.handle_view.HandleView.{HandleView}
+use Rattle.vsd_rule.specs.declared.row_view.RowView.{RowView}
+use Rattle.vsd_rule.specs.declared.row_view.ProtectedRow.{ProtectedRow}
+use Rattle.vsd_rule.specs.declared.row_view.RetiredRow.{RetiredRow}
 use Rattle.vsd_rule.specs.declared.view.View.{View}
 use Rattle.vsd_rule.specs.declared.view.Who.{Who}
 use Rattle.vsd_rule.specs.declared.view.Who.TheVariants.{Root, Caller}
 use Rattle.vsd_rule.specs.Lists.{LawfulKey}
 use Rattle.vsd_rule.specs.Zones.{Zones, zones}
 use Rattle.vsd_rule.specs.Seats.{Seats, caller_of}
-use Rattle.vsd_rule.specs.Names.{Named, Names, KnowsNames}
-use Rattle.vsd_rule.specs.Rows.{Rowed, Rows, Minds}
-use Rattle.vsd_rule.specs.Casts.{Casts, MindsCasts}
-use Rattle.vsd_rule.specs.Rule.{Whole, Rule, who_of, named_of, rowed_of, casting_of}
-use Rattle.vsd_rule.specs.Moves.{opening_naming, opening_rowing, opening_casting, opening_cursor, caller_view, noted, after_split, split_off}
+use Rattle.vsd_rule.specs.Handles.{HandleSeat, Handles, TrueHandleView}
+use Rattle.vsd_rule.specs.Rows.{RowSeat, Rows, TrueRowView}
+use Rattle.vsd_rule.specs.Casts.{Casts, TrueCastView}
+use Rattle.vsd_rule.specs.Rule.{Whole, Rule, who_of, handle_seat, row_seat, cast_view}
+use Rattle.vsd_rule.specs.Moves.{opening_handle_view, opening_row_view, opening_cast_view, opening_cursor, caller_view, noted, after_split, split_off}
 use Rattle.vsd_rule.specs.declared.step.Act.TheVariants.{Split}
 use Rattle.vsd_rule.specs.declared.step.Step.{Step}
-use Rattle.vsd_rule.proofs.NewSeats.{new_knows, new_words, new_minds, new_minds_casts, none_there}
+use Rattle.vsd_rule.proofs.NewSeats.{new_true_handle_view, new_words, new_true_row_view, new_true_cast_view, none_there}
 
 -- ---- one more of a list
 
@@ -36,7 +36,7 @@ data Which {A : Type 0} (l : List A) (i : ℕ) (left right : A) (j : ℕ) (b : A
   is_other : j ≢ i → get_elem? l j ≡ some b → Which l i left right j b
 
 module _ {A : Type 0} where
-  at_end : (l : List A) (a b : A) (j : ℕ) → get_elem? (l ++ a ∷ []) j ≡ some b → (get_elem? l j ≡ some b) ⊎ ((j ≡ length l) × (a ≡ b))
+  pub at_end : (l : List A) (a b : A) (j : ℕ) → get_elem? (l ++ a ∷ []) j ≡ some b → (get_elem? l j ≡ some b) ⊎ ((j ≡ length l) × (a ≡ b))
   at_end [] a b zero e = inr (refl, some-injective a b e)
   at_end [] a b (suc j) e = absurd (some-ne-none b (sym e))
   at_end (x ∷ xs) a b zero e = inl e
@@ -115,31 +115,31 @@ module _ (s : Sizes) (whos : List Who) (id next : ℕ) (seats : Seats s whos) (a
         in_range = λ i number e. split_in_range i number (of i (Caller number) e);
       }
 
--- ---- names, rows and casts
+-- ---- handles, rows and casts
 
 module _ (k : Key) (lawful : LawfulKey k) (gen : ℕ → ℕ) (name : ℕ → ℕ → ℕ) (id next : ℕ) (small : next < k.sizes.callers) where
-  abbrev new_named : Named
-  new_named = record { who = Caller next; naming = opening_naming k }
+  abbrev new_handle_seat : HandleSeat
+  new_handle_seat = record { who = Caller next; handles = opening_handle_view k }
 
-  module _ (words : List ℕ) (seats : List Named) (naming : Naming) (n : Names k gen name words seats) (at : get_elem? seats id ≡ some (record { who = Root next; naming = naming })) where
-    abbrev left_named : Named
-    left_named = record { who = Root (suc next); naming = naming }
+  module _ (words : List ℕ) (seats : List HandleSeat) (handles : HandleView) (n : Handles k gen name words seats) (at : get_elem? seats id ≡ some (record { who = Root next; handles = handles })) where
+    abbrev left_handle_seat : HandleSeat
+    left_handle_seat = record { who = Root (suc next); handles = handles }
 
-    abbrev Knows : ℕ → Named → Type 0
-    Knows seat d = KnowsNames k gen name n.shows d
+    abbrev Knows : ℕ → HandleSeat → Type 0
+    Knows seat d = TrueHandleView k gen name n.handle_word_of d
 
-    split_names : Names k gen name words (set seats id left_named ++ new_named ∷ [])
-    split_names =
-        let root = n.each id (record { who = Root next; naming = naming }) at in
-        let left : KnowsNames k gen name n.shows left_named = record { names = root.names; words = λ row past inside. root.words row (omega arith) inside } in
-        let right = new_knows k gen name n.shows lawful (Caller next) n.row n.host (new_words k gen name n.shows next root.words small) in
+    split_handles : Handles k gen name words (set seats id left_handle_seat ++ new_handle_seat ∷ [])
+    split_handles =
+        let root = n.each id (record { who = Root next; handles = handles }) at in
+        let left : TrueHandleView k gen name n.handle_word_of left_handle_seat = record { bindings = root.bindings; words = λ row past inside. root.words row (omega arith) inside } in
+        let right = new_true_handle_view k gen name n.handle_word_of lawful (Caller next) n.row n.host (new_words k gen name n.handle_word_of next root.words small) in
         record {
-          shows = n.shows;
+          handle_word_of = n.handle_word_of;
           word = n.word;
           row = n.row;
           host = n.host;
           mortal = n.mortal;
-          each = each_split Knows seats id left_named new_named left right (λ seat d there. n.each seat d there);
+          each = each_split Knows seats id left_handle_seat new_handle_seat left right (λ seat d there. n.each seat d there);
         }
 
   -- the first row that a new caller's search looks at is one of the rows
@@ -149,28 +149,28 @@ module _ (k : Key) (lawful : LawfulKey k) (gen : ℕ → ℕ) (name : ℕ → �
       let turned : next * k.sizes.rows < k.sizes.rows * k.sizes.callers = omega (arith, less) in
       (div-lt_iff_lt-mul {k = k.sizes.callers} {x = next * k.sizes.rows} {y = k.sizes.rows} (omega arith)).1 turned
 
-  abbrev new_rowed : Rowed
-  new_rowed = record { who = Caller next; rowing = opening_rowing (opening_cursor k next) }
+  abbrev new_row_seat : RowSeat
+  new_row_seat = record { who = Caller next; rows = opening_row_view (opening_cursor k next) }
 
-  module _ (epoch : ℕ) (pins cells words buckets : List ℕ) (seats : List Rowed) (rowing : Rowing) (r : Rows k gen name epoch pins cells words buckets seats)
-      (at : get_elem? seats id ≡ some (record { who = Root next; rowing = rowing })) where
-    abbrev root_rowed : Rowed
-    root_rowed = record { who = Root next; rowing = rowing }
+  module _ (epoch : ℕ) (pins cells words buckets : List ℕ) (seats : List RowSeat) (rows : RowView) (r : Rows k gen name epoch pins cells words buckets seats)
+      (at : get_elem? seats id ≡ some (record { who = Root next; rows = rows })) where
+    abbrev root_row_seat : RowSeat
+    root_row_seat = record { who = Root next; rows = rows }
 
-    abbrev left_rowed : Rowed
-    left_rowed = record { who = Root (suc next); rowing = rowing }
+    abbrev left_row_seat : RowSeat
+    left_row_seat = record { who = Root (suc next); rows = rows }
 
-    abbrev MindsIn : ℕ → Rowed → Type 0
-    MindsIn seat d = Minds k gen name r.place r.content epoch pins seat d
+    abbrev TrueIn : ℕ → RowSeat → Type 0
+    TrueIn seat d = TrueRowView k gen name r.state r.content epoch pins seat d
 
-    left_minds : MindsIn id left_rowed
-    left_minds = let m = r.each id root_rowed at in record {
+    left_true_row_view : TrueIn id left_row_seat
+    left_true_row_view = let m = r.each id root_row_seat at in record {
       pin = (m.pin.0, λ caller past inside. m.pin.1 caller (omega arith) inside);
       pinned = m.pinned;
       loaded = m.loaded;
       cursor = m.cursor;
-      holds = m.holds;
-      fresh = m.fresh;
+      keepings = m.keepings;
+      stored = m.stored;
       limbo = m.limbo;
       once = m.once;
       room = m.room;
@@ -179,72 +179,72 @@ module _ (k : Key) (lawful : LawfulKey k) (gen : ℕ → ℕ) (name : ℕ → �
       evidences = m.evidences;
     }
 
-    right_minds : MindsIn (length seats) new_rowed
-    right_minds = let m = r.each id root_rowed at in
-        new_minds k gen name r.place r.content epoch pins (length seats) (Caller next) (opening_cursor k next) (m.pin.1 next (omega arith) small) new_cursor
-        (λ row hold h e. absurd (omega (arith, r.keeper row (length seats) hold h e)))
+    right_true_row_view : TrueIn (length seats) new_row_seat
+    right_true_row_view = let m = r.each id root_row_seat at in
+        new_true_row_view k gen name r.state r.content epoch pins (length seats) (Caller next) (opening_cursor k next) (m.pin.1 next (omega arith) small) new_cursor
+        (λ row keeping h e. absurd (omega (arith, r.keeper row (length seats) keeping h e)))
 
     -- the oldest row in limbo of the one isn't protected by the other, where the one has passed it
-    abbrev Passes : Rowed → Rowed → Type 0
-    Passes d e = (number i : ℕ) (x : Waiting) (y : Sight) → e.who ≡ Caller number → number < d.rowing.passed → get_elem? d.rowing.limbo 0 ≡ some x → get_elem? e.rowing.sights i ≡ some y
-        → 0 < e.rowing.pinned → y.row ≢ x.row
+    abbrev Passes : RowSeat → RowSeat → Type 0
+    Passes d e = (number i : ℕ) (x : RetiredRow) (y : ProtectedRow) → e.who ≡ Caller number → number < d.rows.passed → get_elem? d.rows.limbo 0 ≡ some x → get_elem? e.rows.protected i ≡ some y
+        → 0 < e.rows.pinned → y.row ≢ x.row
 
-    passes : (seat other : ℕ) (d e : Rowed) → get_elem? seats seat ≡ some d → get_elem? seats other ≡ some e → Passes d e
+    passes : (seat other : ℕ) (d e : RowSeat) → get_elem? seats seat ≡ some d → get_elem? seats other ≡ some e → Passes d e
     passes seat other d e one two number i x y is passed oldest sees pinned = r.swept seat other number i d e x y one two is passed oldest sees pinned
 
-    root_passes_none : (d : Rowed) → Passes d left_rowed
+    root_passes_none : (d : RowSeat) → Passes d left_row_seat
     root_passes_none d number i x y is passed oldest sees pinned = absurd (cc)
 
-    new_sees_none : (d : Rowed) → Passes d new_rowed
+    new_sees_none : (d : RowSeat) → Passes d new_row_seat
     new_sees_none d number i x y is passed oldest sees pinned = absurd (none_there y i sees)
 
-    new_passes_none : (e : Rowed) → Passes new_rowed e
+    new_passes_none : (e : RowSeat) → Passes new_row_seat e
     new_passes_none e number i x y is passed oldest sees pinned = absurd (omega arith)
 
-    left_passes : (other : ℕ) (e : Rowed) → get_elem? seats other ≡ some e → Passes left_rowed e
-    left_passes other e there number i x y is passed oldest sees pinned = r.swept id other number i root_rowed e x y at there is passed oldest sees pinned
+    left_passes : (other : ℕ) (e : RowSeat) → get_elem? seats other ≡ some e → Passes left_row_seat e
+    left_passes other e there number i x y is passed oldest sees pinned = r.swept id other number i root_row_seat e x y at there is passed oldest sees pinned
 
-    abbrev split_rowed : List Rowed
-    split_rowed = set seats id left_rowed ++ new_rowed ∷ []
+    abbrev split_row_seats : List RowSeat
+    split_row_seats = set seats id left_row_seat ++ new_row_seat ∷ []
 
-    passes_others : (d : Rowed) → ((other : ℕ) (e : Rowed) → get_elem? seats other ≡ some e → Passes d e) → (other : ℕ) (e : Rowed) → get_elem? split_rowed other ≡ some e → Passes d e
-    passes_others d others = each_split (λ other e. Passes d e) seats id left_rowed new_rowed (root_passes_none d) (new_sees_none d) others
+    passes_others : (d : RowSeat) → ((other : ℕ) (e : RowSeat) → get_elem? seats other ≡ some e → Passes d e) → (other : ℕ) (e : RowSeat) → get_elem? split_row_seats other ≡ some e → Passes d e
+    passes_others d others = each_split (λ other e. Passes d e) seats id left_row_seat new_row_seat (root_passes_none d) (new_sees_none d) others
 
-    split_swept : (seat : ℕ) (d : Rowed) → get_elem? split_rowed seat ≡ some d → (other : ℕ) (e : Rowed) → get_elem? split_rowed other ≡ some e → Passes d e
-    split_swept = each_split (λ seat d. (other : ℕ) (e : Rowed) → get_elem? split_rowed other ≡ some e → Passes d e) seats id left_rowed new_rowed
-        (passes_others left_rowed left_passes) (λ other e there. new_passes_none e) (λ seat d one. passes_others d (λ other e two. passes seat other d e one two))
+    split_swept : (seat : ℕ) (d : RowSeat) → get_elem? split_row_seats seat ≡ some d → (other : ℕ) (e : RowSeat) → get_elem? split_row_seats other ≡ some e → Passes d e
+    split_swept = each_split (λ seat d. (other : ℕ) (e : RowSeat) → get_elem? split_row_seats other ≡ some e → Passes d e) seats id left_row_seat new_row_seat
+        (passes_others left_row_seat left_passes) (λ other e there. new_passes_none e) (λ seat d one. passes_others d (λ other e two. passes seat other d e one two))
 
-    split_rows : Rows k gen name epoch pins cells words buckets split_rowed
+    split_rows : Rows k gen name epoch pins cells words buckets split_row_seats
     split_rows = record {
-      place = r.place;
+      state = r.state;
       content = r.content;
-      shows = r.shows;
+      cell_word = r.cell_word;
       epoch_small = r.epoch_small;
       row = r.row;
-      keeper = λ row seat hold h e. omega (arith, r.keeper row seat hold h e, split_length seats id left_rowed new_rowed);
+      keeper = λ row seat keeping h e. omega (arith, r.keeper row seat keeping h e, split_length seats id left_row_seat new_row_seat);
       cell = r.cell;
       cell_names = r.cell_names;
       cell_named = r.cell_named;
       bucket_names = r.bucket_names;
       bucket_named = r.bucket_named;
-      each = each_split MindsIn seats id left_rowed new_rowed left_minds right_minds r.each;
+      each = each_split TrueIn seats id left_row_seat new_row_seat left_true_row_view right_true_row_view r.each;
       swept = λ seat other number i d e x y one two is passed oldest sees pinned. split_swept seat d one other e two number i x y is passed oldest sees pinned;
     }
 
-  module _ (region : ℕ) (words : List ℕ) (seats : List Casting) (d : Casting) (c : Casts k gen name region words seats) (at : get_elem? seats id ≡ some d) where
-    abbrev MindsCast : ℕ → Casting → Type 0
-    MindsCast seat d = MindsCasts k gen name c.hand c.content words seat d
+  module _ (region : ℕ) (words : List ℕ) (seats : List CastView) (d : CastView) (c : Casts k gen name region words seats) (at : get_elem? seats id ≡ some d) where
+    abbrev TrueCast : ℕ → CastView → Type 0
+    TrueCast seat d = TrueCastView k gen name c.writer c.content words seat d
 
-    split_casts : Casts k gen name region words (set seats id d ++ opening_casting ∷ [])
+    split_casts : Casts k gen name region words (set seats id d ++ opening_cast_view ∷ [])
     split_casts =
-        let right = new_minds_casts k gen name c.hand c.content words (length seats) (λ row h e. absurd (omega (arith, c.keeper row (length seats) h e))) in
+        let right = new_true_cast_view k gen name c.writer c.content words (length seats) (λ row h e. absurd (omega (arith, c.keeper row (length seats) h e))) in
         record {
-          hand = c.hand;
+          writer = c.writer;
           content = c.content;
           region_in = c.region_in;
           row = c.row;
-          keeper = λ row seat h e. omega (arith, c.keeper row seat h e, split_length seats id d opening_casting);
-          each = each_split MindsCast seats id d opening_casting (c.each id d at) right c.each;
+          keeper = λ row seat h e. omega (arith, c.keeper row seat h e, split_length seats id d opening_cast_view);
+          each = each_split TrueCast seats id d opening_cast_view (c.each id d at) right c.each;
         }
 
 -- ---- the whole
@@ -257,11 +257,11 @@ module _ (k : Key) (z : Zones) (views : List View) (id next : ℕ) (v : View) (l
   abbrev split_views : List View
   split_views = set views id left_view ++ caller_view k next ∷ []
 
-  root_named : get_elem? (map named_of views) id ≡ some (record { who = Root next; naming = v.naming })
-  root_named = at_map named_of views id v at ∙ ap (λ (who : Who). some (record { who = who; naming = v.naming })) is
+  root_handle_seat : get_elem? (map handle_seat views) id ≡ some (record { who = Root next; handles = v.handles })
+  root_handle_seat = at_map handle_seat views id v at ∙ ap (λ (who : Who). some (record { who = who; handles = v.handles })) is
 
-  root_rowed_there : get_elem? (map rowed_of views) id ≡ some (record { who = Root next; rowing = v.rowing })
-  root_rowed_there = at_map rowed_of views id v at ∙ ap (λ (who : Who). some (record { who = who; rowing = v.rowing })) is
+  root_row_seat_there : get_elem? (map row_seat views) id ≡ some (record { who = Root next; rows = v.rows })
+  root_row_seat_there = at_map row_seat views id v at ∙ ap (λ (who : Who). some (record { who = who; rows = v.rows })) is
 
   split_keyed : (seat : ℕ) (u : View) → get_elem? split_views seat ≡ some u → u.key ≡ k
   split_keyed = each_split (λ seat u. u.key ≡ k) views id left_view (caller_view k next) (w.keyed id v at) refl w.keyed
@@ -274,12 +274,12 @@ module _ (k : Key) (z : Zones) (views : List View) (id next : ℕ) (v : View) (l
     keyed = split_keyed;
     seats = subst (Seats k.sizes) (sym (map_split who_of views id left_view (caller_view k next)))
         (split_seats k.sizes (map who_of views) id next w.seats (at_map who_of views id v at ∙ ap some is) small);
-    names = subst (Names k w.gen w.name z.handles) (sym (map_split named_of views id left_view (caller_view k next)))
-        (split_names k w.lawful w.gen w.name id next small z.handles (map named_of views) v.naming w.names root_named);
-    rows = subst (Rows k w.gen w.name z.epoch z.pins z.cells z.rows z.buckets) (sym (map_split rowed_of views id left_view (caller_view k next)))
-        (split_rows k w.lawful w.gen w.name id next small z.epoch z.pins z.cells z.rows z.buckets (map rowed_of views) v.rowing w.rows root_rowed_there);
-    casts = subst (Casts k w.gen w.name z.region z.casts) (sym (map_split casting_of views id left_view (caller_view k next)))
-        (split_casts k w.lawful w.gen w.name id next small z.region z.casts (map casting_of views) v.casting w.casts (at_map casting_of views id v at));
+    handles = subst (Handles k w.gen w.name z.handles) (sym (map_split handle_seat views id left_view (caller_view k next)))
+        (split_handles k w.lawful w.gen w.name id next small z.handles (map handle_seat views) v.handles w.handles root_handle_seat);
+    rows = subst (Rows k w.gen w.name z.epoch z.pins z.cells z.rows z.buckets) (sym (map_split row_seat views id left_view (caller_view k next)))
+        (split_rows k w.lawful w.gen w.name id next small z.epoch z.pins z.cells z.rows z.buckets (map row_seat views) v.rows w.rows root_row_seat_there);
+    casts = subst (Casts k w.gen w.name z.region z.casts) (sym (map_split cast_view views id left_view (caller_view k next)))
+        (split_casts k w.lawful w.gen w.name id next small z.region z.casts (map cast_view views) v.casts w.casts (at_map cast_view views id v at));
   }
 
 -- the rule is kept where the root splits a seat off for the next caller

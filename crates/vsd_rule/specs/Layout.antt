@@ -1,6 +1,7 @@
--- Where a table's words lie in memory, and the order in which they are numbered when they are printed.
--- The epoch word and each caller's epoch word lie on cache lines of their own. The words between them stay 0 and are nobody's.
-use Rattle.std.specs.Prelude.{ℕ, ◌+◌, ◌-◌, ◌*◌, ◌/◌, ◌^◌, if◌then◌else◌, nat_lt}
+-- Where a table's words lie in memory, and how they are numbered when they are printed.
+-- The epoch word and each caller's epoch word lie on cache lines of their own, and no counter lies on the line of a cell.
+-- The words between stay 0 and are nobody's.
+use Rattle.std.specs.Prelude.{◌≡◌, ◌<◌, ◌≤◌, ℕ, ◌+◌, ◌-◌, ◌*◌, ◌/◌, ◌^◌, if◌then◌else◌, nat_lt}
 use Rattle.vsd_rule.specs.declared.sizes.Sizes.{Sizes}
 
 -- a caller's epoch word; the epoch is word 0
@@ -12,13 +13,17 @@ module _ (s : Sizes) where
   abbrev pub counts_from : ℕ
   counts_from = 8 + 8 * s.callers
 
-  -- the first of the cells, one per site
+  -- the first of the cells, one per site, seven words past the last counter
   abbrev pub cells_from : ℕ
-  cells_from = counts_from + s.tokens
+  cells_from = counts_from + s.tokens + 7
 
   -- the first of the rows, of four words each: claim, handle, token, target
   abbrev pub rows_from : ℕ
   rows_from = cells_from + s.sites
+
+  -- the i-th word of a row
+  abbrev pub row_word_at : ℕ → ℕ → ℕ
+  row_word_at row i = rows_from + (4 * row + i)
 
   abbrev pub buckets_from : ℕ
   buckets_from = rows_from + 4 * s.rows
@@ -30,7 +35,7 @@ module _ (s : Sizes) where
   abbrev pub handle_rows : ℕ
   handle_rows = s.hosts + 64 * s.callers
 
-  -- the first of a caller's 64 rows of handles
+  -- the first of a caller's 64 handle rows
   abbrev pub first_row : ℕ → ℕ
   first_row caller = s.hosts + 64 * caller
 
@@ -48,9 +53,19 @@ module _ (s : Sizes) where
   abbrev pub word_count : ℕ
   word_count = casts_from + 3 * cast_rows
 
-  -- the number of the word at a place in memory, in the order: the epoch, the callers' epoch words, and then the other words as they lie
+  -- the number of the word at an index in memory: first the epoch, then the callers' epoch words, then the counters, and then the other words as they lie
   abbrev pub stated_number : ℕ → ℕ
-  stated_number i = if nat_lt i counts_from then i / 8 else (i - counts_from + s.callers + 1)
+  stated_number i =
+      if nat_lt i counts_from then i / 8
+      else if nat_lt i cells_from then i - counts_from + s.callers + 1
+      else (i - cells_from + s.tokens + s.callers + 1)
+
+  -- whose word the one at an index is; a word between is nobody's
+  pub data Whose (i : ℕ) : Type 0 where
+    the_epoch : i ≡ 0 → Whose i
+    of_caller : (caller : ℕ) → caller < s.callers → i ≡ pin_at caller → Whose i
+    of_token : (token : ℕ) → token < s.tokens → i ≡ counts_from + token → Whose i
+    of_others : cells_from ≤ i → i < word_count → Whose i
 
 -- a cast row's number over all regions
 unfoldable pub cast_row : ℕ → ℕ → ℕ

@@ -1,4 +1,4 @@
--- What a table is told of the world above it.
+-- What a table knows of the world above it.
 use Rattle.std.specs.Prelude.{◌≡◌, ℕ, ◌+◌, ◌*◌, ◌<◌, ◌^◌, List, length, slice_index}
 use Rattle.vsd_rule.specs.Sizes.{LawfulSizes}
 use Rattle.vsd_rule.specs.declared.key.Key.{Key}
@@ -33,6 +33,6 @@ module _ (k : Key) where
     pub targets : (i : ℕ) → slice_index k.world.sel i < 2 ^ 32
     pub answers : (i : ℕ) → slice_index k.world.cmp i < 2
 
--- what a table of these sizes is told
-abbrev pub told_key : Sizes → ℕ → List ℕ → List ℕ → List ℕ → List ℕ → Key
-told_key sizes types site_tokens host_types sel cmp = record { sizes = sizes; world = record { types = types; site_tokens = site_tokens; host_types = host_types; sel = sel; cmp = cmp } }
+-- the key of a table of these sizes, with these lists
+abbrev pub key_with : Sizes → ℕ → List ℕ → List ℕ → List ℕ → List ℕ → Key
+key_with sizes types site_tokens host_types sel cmp = record { sizes = sizes; world = record { types = types; site_tokens = site_tokens; host_types = host_types; sel = sel; cmp = cmp } }

@@ -1,4 +1,4 @@
--- The lists that a table is told of, as a caller's proof picks them.
+-- The lists of the world, as a caller's proof picks them.
 use Rattle.std.specs.Prelude.{ℕ, List}
 
 pub record WorldLists : Type 0 where

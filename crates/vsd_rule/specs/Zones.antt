@@ -1,4 +1,4 @@
--- The words of a table, by purpose. The rule speaks of these lists, so it names no place in memory.
+-- The words of a table, by purpose. The rule speaks of these lists, so it says nothing of where they lie.
 use Rattle.std.specs.Prelude.{ℕ, zero, suc, ◌+◌, ◌*◌, List, [], ◌∷◌, take, drop, slice_index}
 use Rattle.vsd_rule.specs.declared.sizes.Sizes.{Sizes}
 use Rattle.vsd_rule.specs.Layout.{counts_from, cells_from, rows_from, buckets_from, handles_from, handle_rows, region_at, casts_from, cast_rows}

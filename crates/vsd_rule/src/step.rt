@@ -1,4 +1,5 @@
-use crate::rowing::Waiting;
+//! What a step is.
+use crate::row_view::RetiredRow;
 use std::collections::LinkedList;
 use vsd_words::{CastWord, Handle};
 
@@ -8,6 +9,14 @@ pub enum Doing {
     Nothing,
     Call { site: u16, handle: Handle },
     Unload { handle: Handle },
+}
+
+/// What a seat begins with a load that carries no word of it: a load of the epoch begins an
+/// operation, and a load of the region a cast.
+#[derive(Clone, Copy, PartialEq, Eq, Debug)]
+pub enum Begins {
+    Operation(Doing),
+    Cast { source: Handle, target: Handle },
 }
 
 /// One of the four words of a row.
@@ -25,8 +34,8 @@ pub enum RowWord {
 pub enum Act {
     /// A load of the first word, at which a seat for the next caller is split off.
     Split,
-    /// A load of the epoch, which begins an operation.
-    Epoch(Doing),
+    /// A load of the epoch, which may begin an operation.
+    Epoch,
     /// A store of the epoch plus 1 in the own epoch word.
     Pin(u64),
     /// A store of 0 in the own epoch word.
@@ -61,8 +70,8 @@ pub enum Act {
     Bind(u16, u32, u16),
     /// A store of a handle word that is not live: row, generation, number.
     Unbind(u16, u32, u16),
-    /// A first load of a cast row's version, in a cast of source to target.
-    LoadVersion(u16, u32, Handle, Handle),
+    /// A first load of a cast row's version.
+    LoadVersion(u16, u32),
     LoadSource(u16, u32),
     LoadCast(u16, u32),
     /// A second load of a cast row's version.
@@ -73,8 +82,8 @@ pub enum Act {
     SetCast(u16, u32, CastWord),
     /// A store of an even version.
     Publish(u16, u32, u64),
-    /// A load of the region, which begins a cast of source to target.
-    LoadRegion(Handle, Handle),
+    /// A load of the region, which begins a cast.
+    LoadRegion,
     /// An exchange of a cast row's version from an even one to the next odd one.
     ReclaimCast(u16, u32, u64),
     /// An exchange of the region to the next one.
@@ -95,5 +104,5 @@ pub struct Step {
     pub act: Act,
     pub found: u64,
     pub cursor: u16,
-    pub limbo: LinkedList<Waiting>,
+    pub limbo: LinkedList<RetiredRow>,
 }

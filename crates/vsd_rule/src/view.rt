@@ -1,7 +1,8 @@
-use crate::casting::Casting;
+//! What a seat knows.
+use crate::cast_view::CastView;
+use crate::handle_view::HandleView;
 use crate::key::Key;
-use crate::naming::Naming;
-use crate::rowing::Rowing;
+use crate::row_view::RowView;
 use crate::step::Step;
 use std::collections::LinkedList;
 
@@ -17,9 +18,9 @@ pub enum Who {
 pub struct View {
     pub key: Key,
     pub who: Who,
-    pub naming: Naming,
-    pub rowing: Rowing,
-    pub casting: Casting,
-    /// All steps that the seat has made since opening, the latest last.
+    pub handles: HandleView,
+    pub rows: RowView,
+    pub casts: CastView,
+    /// All steps that the seat has made since opening, the latest first.
     pub steps: LinkedList<Step>,
 }

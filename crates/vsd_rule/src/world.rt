@@ -1,10 +1,11 @@
+//! The world above a table.
 ghost use Rattle.std.specs.Prelude.{◌≡◌, ℕ, List};
 ghost use Rattle.std.specs.Borrow.{ftrue};
 ghost use Rattle.vsd_rule.specs.World.{WorldLists};
 
 use std::marker::Model;
 
-/// What the table is told of the world above it, for contracts alone: it has no bytes.
+/// What the table knows of the world above it, for contracts alone: it has no bytes.
 #[derive(Drop)]
 pub struct World {
     /// How many types there are.
@@ -25,7 +26,7 @@ impl Model for World {
 
 impl World {
     /// The world with these lists. The caller's proof picks them, by what `_from` is.
-    pub fn told<T>(_from: &T) -> World
+    pub fn of<T>(_from: &T) -> World
         ghost lists: { WorldLists }
         ensures { (result.types ≡ lists.types) × (result.site_tokens ≡ lists.site_tokens) × (result.host_types ≡ lists.host_types) × (result.sel ≡ lists.sel) × (result.cmp ≡ lists.cmp) }
     {

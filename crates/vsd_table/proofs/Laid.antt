@@ -6,18 +6,18 @@ use Rattle.vsd_rule.specs.declared.key.Key.{Key}
 use Rattle.vsd_rule.specs.declared.sizes.Sizes.{Sizes}
 use Rattle.vsd_rule.specs.declared.world.World.{World}
 use Rattle.vsd_rule.specs.Layout.{handles_from, word_count, cast_rows}
-use Rattle.vsd_rule.specs.Lists.{told_key}
+use Rattle.vsd_rule.specs.Lists.{key_with}
 use Rattle.vsd_rule.specs.Opening.{opening_words, host_packing}
-use Rattle.vsd_table.specs.Places.{ArePlaces}
-use Rattle.vsd_table.specs.declared.places.Places.{Places}
+use Rattle.vsd_table.specs.Offsets.{AreOffsets}
+use Rattle.vsd_table.specs.declared.offsets.Offsets.{Offsets}
 
 -- what is written is what the rule calls the words at opening
-pub words_written : (k : Key) (p : Places) (hosts : List ℕ) → ArePlaces p k.sizes → hosts ≡ k.world.host_types → length k.world.host_types ≡ k.sizes.hosts
+pub words_written : (k : Key) (p : Offsets) (hosts : List ℕ) → AreOffsets p k.sizes → hosts ≡ k.world.host_types → length k.world.host_types ≡ k.sizes.hosts
     → replicate p.handles 0 ++ (map host_packing hosts ++ replicate (p.end - (p.handles + length hosts)) 0) ≡ opening_words k
 unfolding opening_words
-words_written k p hosts places same long =
-    let handles : p.handles ≡ handles_from k.sizes = places.4 in
-    let end : p.end ≡ word_count k.sizes = places.7 in
+words_written k p hosts offsets same long =
+    let handles : p.handles ≡ handles_from k.sizes = offsets.4 in
+    let end : p.end ≡ word_count k.sizes = offsets.7 in
     let count : length hosts ≡ k.sizes.hosts = ap length same ∙ long in
     let rest : p.end - (p.handles + length hosts) ≡ 64 * k.sizes.callers + 1 + 3 * cast_rows k.sizes = omega arith in
     λ c. replicate (handles c) 0 ++ (map host_packing (same c) ++ replicate (rest c) 0)
@@ -34,6 +34,6 @@ ok_then (Ok x) P Q h p = h x p
 ok_then (Err e) P Q h p = p
 
 -- the key with a world of these lists
-pub key_told : (sizes : Sizes) (world : World) (types : ℕ) (site_tokens host_types sel cmp : List ℕ) → world.types ≡ types → world.site_tokens ≡ site_tokens → world.host_types ≡ host_types → world.sel ≡ sel → world.cmp ≡ cmp
-    → let k : Key = record { sizes = sizes; world = world } in k ≡ told_key sizes types site_tokens host_types sel cmp
-key_told sizes world types site_tokens host_types sel cmp a b d e f = λ c. record { sizes = sizes; world = record { types = a c; site_tokens = b c; host_types = d c; sel = e c; cmp = f c } }
+pub key_is : (sizes : Sizes) (world : World) (types : ℕ) (site_tokens host_types sel cmp : List ℕ) → world.types ≡ types → world.site_tokens ≡ site_tokens → world.host_types ≡ host_types → world.sel ≡ sel → world.cmp ≡ cmp
+    → let k : Key = record { sizes = sizes; world = world } in k ≡ key_with sizes types site_tokens host_types sel cmp
+key_is sizes world types site_tokens host_types sel cmp a b d e f = λ c. record { sizes = sizes; world = record { types = a c; site_tokens = b c; host_types = d c; sel = e c; cmp = f c } }

@@ -1,4 +1,12 @@
+-- Lemmas that several proofs of this crate share.
+pub mod Kept
 pub mod Powers
-pub mod Allowed
+pub mod HandleWords
+pub mod EpochWords
+pub mod RowWords
+pub mod CellWords
+pub mod BucketWords
+pub mod LimboWords
 pub mod Seats
 pub mod Laid
+pub mod CastWords

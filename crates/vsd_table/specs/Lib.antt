@@ -1,3 +1,12 @@
-pub mod Places
-pub mod Plays
+-- What contracts of this crate cite.
+pub mod Offsets
+pub mod StepKind
+pub mod HandleKinds
+pub mod EpochKinds
+pub mod RowKinds
+pub mod CellKinds
+pub mod BucketKinds
+pub mod LimboKinds
 pub mod Seating
+pub mod Stepping
+pub mod CastKinds

@@ -3,18 +3,18 @@ ghost use Rattle.std.specs.Prelude.{◌≡◌, ◌<◌, ◌+◌, ◌^◌, ℕ};
 ghost use Rattle.vsd_words.specs.declared.handle_word.HandleWord.{HandleWord};
 ghost use Rattle.vsd_words.specs.HandleWord.{HandleWordInRange, IsHandleWordPacking};
 ghost use Rattle.vsd_rule.specs.Layout.{handle_rows};
-ghost use Rattle.vsd_rule.specs.Names.{handle, owned_word, own_word};
-ghost use Rattle.vsd_rule.specs.Moves.{own_place, after_load_handle, after_bind, after_unbind};
-ghost use Rattle.vsd_rule.specs.Told.{Knows, KnowsOneName, IsOwn, FindsHandle};
+ghost use Rattle.vsd_rule.specs.Handles.{handle, owned_word, own_word};
+ghost use Rattle.vsd_rule.specs.Moves.{own_index, after_load_handle, after_bind, after_unbind};
+ghost use Rattle.vsd_rule.specs.Facts.{Knows, KnowsOneBinding, IsOwn, FindsHandle};
 ghost use Rattle.vsd_table.specs.Seating.{key_of, view_of, Belongs, Becomes};
 
-use crate::plays::{Bind, LoadHandle, Unbind};
+use crate::handle_kinds::{Bind, LoadHandle, Unbind};
 use crate::seated::Seated;
 use crate::shared::Shared;
 use vsd_words::HandleWord;
 
 impl Seated {
-    /// Loads the word of a row of handles. The caller learns the name that it shows, where it is live.
+    /// Loads the word of a handle row. The caller learns the binding that it shows, where it is live.
     #[inline]
     pub fn handle_word(&mut self, table: &Shared, row: u16) -> HandleWord
         requires seat { Belongs table.now self.old }
@@ -22,32 +22,29 @@ impl Seated {
         ensures step { Becomes self.old self.new (after_load_handle (view_of self.old) row result) }
         ensures seat { Belongs table.now self.new }
         ensures finds { FindsHandle (view_of self.old) row result }
-        ensures one_name { KnowsOneName (view_of self.new).naming }
+        ensures one_binding { KnowsOneBinding (view_of self.new).handles }
     {
-        let place = table.handle_place(row);
-        let found = table.table.shared.load::<LoadHandle>(&mut self.seat, place);
+        let index = table.handle_index(row);
+        let found = self.load::<LoadHandle>(table, index);
         unpacked(found)
     }
 
     /// Stores the word of one of the caller's own rows: live, of type `number`, at `generation`,
-    /// which is one more than before. The caller learns the name.
+    /// which is one more than before. The caller learns the binding.
     #[inline]
     pub fn bind(&mut self, table: &Shared, row: u16, generation: u32, number: u16)
         requires seat { Belongs table.now self.old }
         requires own { IsOwn (view_of self.old) row }
-        requires next { (owned_word (view_of self.old).naming (own_place (view_of self.old) row)).generation + 1 ≡ generation }
+        requires next { (owned_word (view_of self.old).handles (own_index (view_of self.old) row)).generation + 1 ≡ generation }
         requires typed { number < (key_of table.now).world.types }
         ensures step { Becomes self.old self.new (after_bind (view_of self.old) row generation number) }
         ensures seat { Belongs table.now self.new }
-        ensures fresh { (other : ℕ) → ¬ Knows (view_of self.old).naming (handle row generation) other }
-        ensures one_name { KnowsOneName (view_of self.new).naming }
+        ensures fresh { (other : ℕ) → ¬ Knows (view_of self.old).handles (handle row generation) other }
+        ensures one_binding { KnowsOneBinding (view_of self.new).handles }
     {
-        let place = table.handle_place(row);
+        let index = table.handle_index(row);
         let word = word_of(generation, number, true).pack();
-        table
-            .table
-            .shared
-            .store::<Bind>(&mut self.seat, place, word);
+        self.store::<Bind>(table, index, word);
     }
 
     /// Stores the word of one of the caller's own rows as it is, but not live.
@@ -55,18 +52,15 @@ impl Seated {
     pub fn unbind(&mut self, table: &Shared, row: u16, generation: u32, number: u16)
         requires seat { Belongs table.now self.old }
         requires own { IsOwn (view_of self.old) row }
-        requires generation { (owned_word (view_of self.old).naming (own_place (view_of self.old) row)).generation ≡ generation }
-        requires number { (owned_word (view_of self.old).naming (own_place (view_of self.old) row)).number ≡ number }
+        requires generation { (owned_word (view_of self.old).handles (own_index (view_of self.old) row)).generation ≡ generation }
+        requires number { (owned_word (view_of self.old).handles (own_index (view_of self.old) row)).number ≡ number }
         ensures step { Becomes self.old self.new (after_unbind (view_of self.old) row generation number) }
         ensures seat { Belongs table.now self.new }
-        ensures one_name { KnowsOneName (view_of self.new).naming }
+        ensures one_binding { KnowsOneBinding (view_of self.new).handles }
     {
-        let place = table.handle_place(row);
+        let index = table.handle_index(row);
         let word = word_of(generation, number, false).pack();
-        table
-            .table
-            .shared
-            .store::<Unbind>(&mut self.seat, place, word);
+        self.store::<Unbind>(table, index, word);
     }
 }
 

@@ -1,27 +1,36 @@
 //! Laying out a table with the seats of its callers.
-ghost use Rattle.std.specs.Prelude.{◌≡◌, ◌<◌, ◌≤◌, ◌+◌, ◌-◌, ◌++◌, ℕ, IfOk, EachIndex, slice_index, length, replicate, map, suc};
+ghost use Rattle.std.specs.Prelude.{◌≡◌, ◌<◌, ◌≤◌, ◌+◌, ◌-◌, ◌++◌, ℕ, IfOk, EachIndex, All, slice_index, length, replicate, map, suc};
 ghost use mathlib.Core.Option.{some};
 ghost use lib.ListN.{get_elem?};
 ghost use Rattle.vsd_rule.specs.declared.view.Who.TheVariants.{Root};
 ghost use Rattle.vsd_rule.specs.Sizes.{LawfulSizes};
-ghost use Rattle.vsd_rule.specs.Lists.{LawfulKey, told_key};
-ghost use Rattle.vsd_rule.specs.Moves.{root_view, caller_view};
+ghost use Rattle.vsd_rule.specs.Seats.{caller_of};
+ghost use Rattle.vsd_rule.specs.Lists.{LawfulKey, key_with};
+ghost use Rattle.vsd_rule.specs.Moves.{root_view, after_split, split_off};
 ghost use Rattle.vsd_rule.specs.Opening.{host_packing};
-ghost use Rattle.vsd_table.specs.Seating.{key_of, view_of, Belongs, AreSeatsOf};
+ghost use Rattle.vsd_table.specs.Seating.{key_of, view_of, IsNew, AreNumbered};
 ghost use Rattle.vsd_table.specs.declared.seated.Seated.{Seated};
 
-use crate::places::Places;
-use crate::plays::NextCaller;
+use crate::offsets::Offsets;
 use crate::seated::Seated;
-use crate::shared::{Order, Shared};
-use atomic_table::{Seat, Table};
+use crate::shared::{Shared, SharedRule};
+use atomic_table::{Seat, Split, Table};
 use std::alloc::{AllocError, Global};
-use vsd_rule::{Key, Resolver, Sizes, View, World};
+use vsd_rule::{Begun, Key, Resolver, Sizes, View, World};
 use vsd_words::HandleWord;
 
-/// What a table is told of.
+/// The root gives out the next caller's seat.
+pub(crate) struct NextCaller;
+
+impl Split<View> for NextCaller {
+    ghost left = { after_split };
+
+    ghost right = { split_off };
+}
+
+/// What a table is laid out from.
 #[derive(Drop)]
-struct Told<'a, R> {
+struct Embedder<'a, R> {
     resolver: &'a R,
     sites: &'a [u16],
     hosts: &'a [u16],
@@ -46,11 +55,12 @@ pub fn layout<R: Resolver>(
     requires hosts { length hosts.now ≡ sizes.hosts }
     requires site_tokens { EachIndex sites.now (λ i. slice_index sites.now i < sizes.tokens) }
     requires host_types { EachIndex hosts.now (λ i. slice_index hosts.now i < R.types resolver.now) }
-    ensures key { IfOk result (λ made. key_of made.0 ≡ told_key sizes (R.types resolver.now) sites.now hosts.now (R.sel resolver.now) (R.cmp resolver.now)) }
+    ensures key { IfOk result (λ made. key_of made.0 ≡ key_with sizes (R.types resolver.now) sites.now hosts.now (R.sel resolver.now) (R.cmp resolver.now)) }
     ensures count { IfOk result (λ made. length made.1.items ≡ sizes.callers) }
-    ensures seats { IfOk result (λ made. AreSeatsOf made.0 made.1.items) }
+    ensures seats { IfOk result (λ made. All (IsNew made.0) made.1.items) }
+    ensures numbers { IfOk result (λ made. AreNumbered made.1.items) }
 {
-    let world = World::told(&Told {
+    let world = World::of(&Embedder {
         resolver,
         sites,
         hosts,
@@ -63,32 +73,33 @@ fn lay_out(alloc: Global, key: Key, hosts: &[u16]) -> Result<(Shared, Vec<Seated
     requires hosts { hosts.now ≡ key.world.host_types }
     ensures key { IfOk result (λ made. key_of made.0 ≡ key) }
     ensures count { IfOk result (λ made. length made.1.items ≡ key.sizes.callers) }
-    ensures seats { IfOk result (λ made. AreSeatsOf made.0 made.1.items) }
+    ensures seats { IfOk result (λ made. All (IsNew made.0) made.1.items) }
+    ensures numbers { IfOk result (λ made. AreNumbered made.1.items) }
 {
     let sizes = key.sizes;
-    let places = Places::of(sizes);
-    let words = opening_words(alloc, places, hosts)?;
+    let offsets = Offsets::of(sizes);
+    let words = opening_words(alloc, offsets, hosts)?;
     let (table, root) = Table::of_words(alloc, &words, &key)?;
     let shared = Shared {
         table,
         sizes,
-        places,
+        offsets,
     };
     let seats = shared.seats(alloc, root)?;
     Ok((shared, seats))
 }
 
 /// The words at opening: the hosts' words stand among zeros.
-fn opening_words(alloc: Global, places: Places, hosts: &[u16]) -> Result<Vec<u64>, AllocError>
-    requires { places.handles + length hosts.now ≤ places.end }
-    ensures { IfOk result (λ words. words.items ≡ replicate places.handles 0 ++ (map host_packing hosts.now ++ replicate (places.end - (places.handles + length hosts.now)) 0)) }
+fn opening_words(alloc: Global, offsets: Offsets, hosts: &[u16]) -> Result<Vec<u64>, AllocError>
+    requires { offsets.handles + length hosts.now ≤ offsets.end }
+    ensures { IfOk result (λ words. words.items ≡ replicate offsets.handles 0 ++ (map host_packing hosts.now ++ replicate (offsets.end - (offsets.handles + length hosts.now)) 0)) }
 {
     let mut words = Vec::new(alloc);
-    words.resize(places.handles, 0)?;
+    words.resize(offsets.handles, 0)?;
     for number in hosts {
         words.push(host_word(*number))?;
     }
-    words.resize(places.end, 0)?;
+    words.resize(offsets.end, 0)?;
     Ok(words)
 }
 
@@ -111,7 +122,8 @@ impl Shared {
         requires table { root.table_id ≡ self.now.table.shared.table_id }
         requires root { root.me.0 ≡ root_view (key_of self.now) }
         ensures count { IfOk result (λ seats. length seats.items ≡ (key_of self.now).sizes.callers) }
-        ensures seats { IfOk result (λ seats. AreSeatsOf self.now seats.items) }
+        ensures seats { IfOk result (λ seats. All (IsNew self.now) seats.items) }
+        ensures numbers { IfOk result (λ seats. AreNumbered seats.items) }
     {
         let mut seats = Vec::with_capacity(alloc, usize::from(self.sizes.callers))?;
         for caller in 0..self.sizes.callers {
@@ -129,12 +141,13 @@ impl Shared {
         ensures table { root.new.table_id ≡ root.old.table_id }
         ensures key { root.new.me.0.key ≡ root.old.me.0.key }
         ensures root { root.new.me.0.who ≡ Root (suc caller) }
-        ensures seat { Belongs self.now result }
-        ensures view { view_of result ≡ caller_view (key_of self.now) caller }
+        ensures seat { IsNew self.now result }
+        ensures number { caller_of (view_of result).who ≡ caller }
     {
         let seat = self.table.shared.split_seat::<NextCaller>(root);
         Seated {
             seat,
+            begun: Begun::new(),
             caller,
             first: self.sizes.hosts + 64 * caller,
         }

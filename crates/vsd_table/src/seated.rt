@@ -1,21 +1,25 @@
+//! The seats of callers.
 ghost use Rattle.std.specs.Prelude.{◌≡◌, ◌<◌, ◌≤◌, ◌+◌, true};
 ghost use Rattle.vsd_rule.specs.Layout.{first_row, handle_rows};
+ghost use Rattle.vsd_rule.specs.Facts.{SmallEpoch};
 ghost use Rattle.vsd_rule.specs.Seats.{caller_of, is_caller};
 
 use atomic_table::Seat;
-use vsd_rule::View;
+use vsd_rule::{Begun, View};
 
 /// The seat of a caller, through which it makes its steps on the table. What the caller knows is
 /// its view, which contracts alone see.
 #[derive(Drop)]
 pub struct Seated {
     pub(crate) seat: Seat<(), View>,
+    pub(crate) begun: Begun,
     pub(crate) caller: u16,
     pub(crate) first: u16,
     ghost is_caller: { is_caller seat.me.0.who ≡ true },
     ghost numbered: { caller ≡ caller_of seat.me.0.who },
     ghost in_range: { caller < seat.me.0.key.sizes.callers },
     ghost its_rows: { first ≡ first_row seat.me.0.key.sizes caller },
+    ghost small_epoch: { SmallEpoch seat.me.0 },
 }
 
 impl Seated {
@@ -29,7 +33,7 @@ impl Seated {
         self.caller
     }
 
-    /// The first of the caller's 64 rows of handles.
+    /// The first of the caller's 64 handle rows.
     pub fn first_row(&self) -> u16
         ensures row { result ≡ first_row (view_of self.now).key.sizes (caller_of (view_of self.now).who) }
         ensures caller { is_caller (view_of self.now).who ≡ true }

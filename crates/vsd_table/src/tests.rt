@@ -1,3 +1,4 @@
+//! Tests of what no clause says.
 ghost use Rattle.std.specs.Prelude.{[]};
 ghost use Rattle.std.proofs.Common.{rules};
 
@@ -48,6 +49,7 @@ fn lays_out_a_seat_per_caller(rt: HostRuntime) -> Result<(), Fail> {
         regions: 1,
         miss: 100,
     };
+    assert!(rt; sizes.lawful());
     let (shared, mut seats) = layout(rt.alloc(), sizes, &[0], &[1], &Bare)?;
     assert!(rt; shared.sizes() == sizes && seats.len() == 2);
     is_shared(&shared);

@@ -9,5 +9,5 @@ pub of_words-requires : goal.of_words-requires
 of_words-requires c =
     let k = c.args.key in
     subst (λ (words : List ℕ). Rule k words (root_view k ∷ []))
-    (sym (c.deref.ensures.value ∙ (c.in_ok-words.ensures ∙ words_written k c.of-places.result c.args.hosts.now c.of-places.ensures.places c.requires.hosts c.requires.lawful.hosts)))
+    (sym (c.deref.ensures.value ∙ (c.in_ok-words.ensures ∙ words_written k c.of-offsets.result c.args.hosts.now c.of-offsets.ensures.offsets c.requires.hosts c.requires.lawful.hosts)))
     (opening_holds k c.requires.lawful)

@@ -1,7 +1,7 @@
 use Rattle.vsd_table.proofs.opening.layout.Given as goal
 
-abbrev pub ghost-told : goal.ghost-told
-ghost-told g a = record {
+abbrev pub ghost-of : goal.ghost-of
+ghost-of g a = record {
   types = g.R.Resolver.types a._from.now.resolver.now;
   site_tokens = a._from.now.sites.now;
   host_types = a._from.now.hosts.now;

@@ -1,63 +1,28 @@
-use Rattle.std.proofs.Common.{ℕ, ◌<◌, true, ap, sym, ◌∙◌, subst}
-use mathlib.Core.Option.{none}
-use Rattle.atomic_table.specs.Table.{State, step, Allows}
-use Rattle.vsd_rule.specs.declared.view.View.{View}
-use Rattle.vsd_rule.specs.Layout.{first_row}
-use Rattle.vsd_rule.specs.Seats.{caller_of, is_caller}
-use Rattle.vsd_rule.specs.Rule.{Rule}
-use Rattle.vsd_table.specs.Plays.{bound}
-use Rattle.vsd_table.proofs.Allowed.{allows_bind}
-use Rattle.vsd_table.proofs.Seats.{own_within, place_known, packs_own}
+use Rattle.std.proofs.Common.{true, refl}
+use Rattle.vsd_table.specs.HandleKinds.{OwnWord}
+use Rattle.vsd_table.proofs.HandleWords.{may_bind}
+use Rattle.vsd_table.proofs.Seats.{packs_own, becomes}
 use Rattle.vsd_table.proofs.seated.Seated.bind.Goals as goal
 
-pub handle_place-place-requires : goal.handle_place-place-requires
-handle_place-place-requires c = own_within c.args.table.now.table.shared.key c.args.self.now.seat.me.0 c.args.row c.args.self.now.caller c.requires.seat.key c.args.self.now.numbered c.args.self.now.in_range c.requires.own
-
-pub store-requires : goal.store-requires
-store-requires c =
-    let k = c.args.table.now.table.shared.key in
-    let slots = c.args.table.now.table.shared.table_id.slots in
-    let id = c.args.self.now.seat.id in
-    let me = c.args.self.now.seat.me in
-    let x = c.pack-word.result in (
-      c.requires.seat.table_id,
-      c.handle_place-place.ensures.within,
-      subst (λ (i : ℕ). Allows (λ (s : State (Unit {0}) View). Rule k s.words s.views) slots id me i (λ (n : ℕ). x) (λ (n : ℕ). bound (step slots i x 0 none) me x)) (sym c.handle_place-place.ensures.place)
-          (allows_bind k slots id me c.requires.seat.key c.args.row c.args.generation c.args.number x c.requires.own c.requires.next c.requires.typed
-          (packs_own true c.word_of.result x c.args.generation c.args.number c.word_of.ensures.value c.word_of.ensures.in_range c.pack-word.ensures.packing)),
-    )
-
-pub invariant_of-self : goal.invariant_of-self
-invariant_of-self c =
-    let told = c.store.ensures.2 c.args.row c.args.generation c.args.number (place_known c.args.table.now.table.shared.key c.args.self.now.seat.me.0 c.args.row c.handle_place-place.result c.requires.seat.key c.handle_place-place.ensures.place)
-    (packs_own true c.word_of.result c.pack-word.result c.args.generation c.args.number c.word_of.ensures.value c.word_of.ensures.in_range c.pack-word.ensures.packing) in
-    record {
-      is_caller = ap (λ (v : View). is_caller v.who) told.view ∙ c.args.self.now.is_caller;
-      numbered = c.args.self.now.numbered ∙ sym (ap (λ (v : View). caller_of v.who) told.view);
-      in_range = subst (λ (v : View). c.args.self.now.caller < v.key.sizes.callers) (sym told.view) c.args.self.now.in_range;
-      its_rows = c.args.self.now.its_rows ∙ ap (λ (v : View). first_row v.key.sizes c.args.self.now.caller) (sym told.view);
-    }
+pub store-requires-clause-may : goal.store-requires-clause-may
+store-requires-clause-may c =
+    let packing = packs_own true c.word_of.result c.pack-word.result c.args.generation c.args.number c.word_of.ensures.value c.word_of.ensures.in_range c.pack-word.ensures.packing in
+    may_bind c.args.table.now c.args.self.now c.requires.seat c.args.row c.handle_index-index.result c.handle_index-index.ensures.index c.args.generation c.args.number c.pack-word.result c.requires.own c.requires.next c.requires.typed packing
 
 pub returns-clause-step : goal.returns-clause-step
 returns-clause-step c =
-    let told = c.store.ensures.2 c.args.row c.args.generation c.args.number (place_known c.args.table.now.table.shared.key c.args.self.now.seat.me.0 c.args.row c.handle_place-place.result c.requires.seat.key c.handle_place-place.ensures.place)
-    (packs_own true c.word_of.result c.pack-word.result c.args.generation c.args.number c.word_of.ensures.value c.word_of.ensures.in_range c.pack-word.ensures.packing) in
-    record { table_id = c.store.ensures.0; seat = c.store.ensures.1; view = told.view }
+    let packing = packs_own true c.word_of.result c.pack-word.result c.args.generation c.args.number c.word_of.ensures.value c.word_of.ensures.in_range c.pack-word.ensures.packing in
+    let x : OwnWord = record { row = c.args.row; generation = c.args.generation; number = c.args.number } in
+    becomes c.store.ensures.stays (c.store.ensures.learns x c.handle_index-index.ensures.index packing.packed refl packing.in_range).view
 
 pub returns-clause-fresh : goal.returns-clause-fresh
 returns-clause-fresh c =
-    let told = c.store.ensures.2 c.args.row c.args.generation c.args.number (place_known c.args.table.now.table.shared.key c.args.self.now.seat.me.0 c.args.row c.handle_place-place.result c.requires.seat.key c.handle_place-place.ensures.place)
-    (packs_own true c.word_of.result c.pack-word.result c.args.generation c.args.number c.word_of.ensures.value c.word_of.ensures.in_range c.pack-word.ensures.packing) in
-    told.fresh
+    let packing = packs_own true c.word_of.result c.pack-word.result c.args.generation c.args.number c.word_of.ensures.value c.word_of.ensures.in_range c.pack-word.ensures.packing in
+    let x : OwnWord = record { row = c.args.row; generation = c.args.generation; number = c.args.number } in
+    (c.store.ensures.learns x c.handle_index-index.ensures.index packing.packed refl packing.in_range).fresh
 
-pub returns-clause-one_name : goal.returns-clause-one_name
-returns-clause-one_name c =
-    let told = c.store.ensures.2 c.args.row c.args.generation c.args.number (place_known c.args.table.now.table.shared.key c.args.self.now.seat.me.0 c.args.row c.handle_place-place.result c.requires.seat.key c.handle_place-place.ensures.place)
-    (packs_own true c.word_of.result c.pack-word.result c.args.generation c.args.number c.word_of.ensures.value c.word_of.ensures.in_range c.pack-word.ensures.packing) in
-    told.one_name
-
-pub returns-clause-seat : goal.returns-clause-seat
-returns-clause-seat c =
-    let told = c.store.ensures.2 c.args.row c.args.generation c.args.number (place_known c.args.table.now.table.shared.key c.args.self.now.seat.me.0 c.args.row c.handle_place-place.result c.requires.seat.key c.handle_place-place.ensures.place)
-    (packs_own true c.word_of.result c.pack-word.result c.args.generation c.args.number c.word_of.ensures.value c.word_of.ensures.in_range c.pack-word.ensures.packing) in
-    record { table_id = c.store.ensures.0 ∙ c.requires.seat.table_id; key = ap (λ (v : View). v.key) told.view ∙ c.requires.seat.key }
+pub returns-clause-one_binding : goal.returns-clause-one_binding
+returns-clause-one_binding c =
+    let packing = packs_own true c.word_of.result c.pack-word.result c.args.generation c.args.number c.word_of.ensures.value c.word_of.ensures.in_range c.pack-word.ensures.packing in
+    let x : OwnWord = record { row = c.args.row; generation = c.args.generation; number = c.args.number } in
+    (c.store.ensures.learns x c.handle_index-index.ensures.index packing.packed refl packing.in_range).one_binding

@@ -1,6 +1,6 @@
-use Rattle.std.proofs.Common.{◌≡◌, length, vec_len, vec_capacity}
+use Rattle.std.proofs.Common.{◌≡◌, length, vec_len, vec_capacity, All}
 use Rattle.vsd_rule.specs.declared.view.Who.TheVariants.{Root}
-use Rattle.vsd_table.specs.Seating.{key_of, AreSeatsOf}
+use Rattle.vsd_table.specs.Seating.{key_of, IsNew, AreNumbered}
 use Rattle.vsd_table.proofs.shared.Shared.seats.Given as goal
 
 abbrev pub invariant-loop-caller : goal.invariant-loop-caller
@@ -11,5 +11,6 @@ invariant-loop-caller l = record {
   count : vec_len l.seats ≡ l.caller;
   listed : length l.seats.items ≡ l.caller;
   room : vec_capacity l.seats ≡ l.self.sizes.callers;
-  seats : AreSeatsOf l.self l.seats.items;
+  seats : All (IsNew l.self) l.seats.items;
+  numbers : AreNumbered l.seats.items;
 }
