@@ -1,3 +1,4 @@
+-- What contracts of this crate cite.
 pub mod Checked
 pub mod Conditions
 pub mod Earliest

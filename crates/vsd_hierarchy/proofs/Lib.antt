@@ -1,3 +1,4 @@
+-- Lemmas that several proofs of this crate share.
 pub mod CycleLemmas
 pub mod DepthLemmas
 pub mod EdgeLemmas

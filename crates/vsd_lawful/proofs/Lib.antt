@@ -1,3 +1,4 @@
+-- Lemmas that several proofs of this crate share.
 pub mod IndexLemmas
 pub mod MethodKeys
 pub mod RepeatLemmas
