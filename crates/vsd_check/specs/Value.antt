@@ -1,3 +1,4 @@
+-- A value of `Checked` as contracts see it.
 use Rattle.std.specs.Prelude.{ℕ, List}
 use Rattle.vsd_ast.specs.declared.declarations.Decls.{Decls}
 

@@ -1,0 +1,6 @@
+pub mod Bits
+pub mod Completeness
+pub mod Improving
+pub mod Moving
+pub mod Rules
+pub mod Sweeping

@@ -1,0 +1,5 @@
+use Rattle.vsd_compat.specs.Improving.{Improves}
+use Rattle.vsd_compat.proofs.waking.hurry.Given as goal
+
+abbrev pub invariant-loop-turn : goal.invariant-loop-turn
+invariant-loop-turn l = Improves l.closed l.initial.matrix l.matrix

@@ -1,0 +1,7 @@
+pub mod Compatibility
+pub mod Matrices
+pub mod Moving
+pub mod Settling
+pub mod Variances
+pub mod Rules
+pub mod Improving

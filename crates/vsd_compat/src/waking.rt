@@ -1,0 +1,117 @@
+//! Filling the rows that an agenda names.
+ghost use Rattle.std.specs.Prelude.{◌≡◌, ◌<◌, length};
+ghost use Rattle.vsd_types.specs.ClosedList.{IsClosedUnder};
+ghost use Rattle.vsd_types.specs.Numbers.{IsDistinct};
+ghost use Rattle.vsd_compat.specs.Improving.{Improves};
+
+use crate::agenda::{Agenda, Links};
+use crate::matrix::Matrix;
+use crate::relation::{absorb_base, absorb_interfaces, relate};
+use std::alloc::{AllocError, Global};
+use vsd_types::Closed;
+
+// How many rows are woken before every row is looked at again.
+const TURNS: u32 = 65536;
+
+/// Fills rows until none is woken any more, or many have been.
+pub(crate) fn hurry(
+    alloc: Global,
+    closed: &Closed,
+    matrix: &mut Matrix,
+    links: &Links,
+) -> Result<(), AllocError>
+    requires count { matrix.old.count ≡ length closed.now.types }
+    requires distinct { IsDistinct closed.now.types }
+    requires closed { IsClosedUnder closed.now.decls.list closed.now.types }
+    ensures { Improves closed.now matrix.old matrix.new }
+{
+    let mut agenda = Agenda::new(alloc, matrix.count)?;
+    for _turn in 0..TURNS {
+        let Some(t) = agenda.take() else {
+            return Ok(());
+        };
+        wake(closed, matrix, links, &mut agenda, t)?;
+    }
+    Ok(())
+}
+
+// Fills the rows that want the row of `t`.
+fn wake(
+    closed: &Closed,
+    matrix: &mut Matrix,
+    links: &Links,
+    agenda: &mut Agenda,
+    t: u16,
+) -> Result<(), AllocError>
+    requires count { matrix.old.count ≡ length closed.now.types }
+    requires distinct { IsDistinct closed.now.types }
+    requires closed { IsClosedUnder closed.now.decls.list closed.now.types }
+    ensures { Improves closed.now matrix.old matrix.new }
+{
+    for below in links.below(t) {
+        climb(closed, matrix, agenda, *below)?;
+    }
+    for user in links.users(t) {
+        vary(closed, matrix, agenda, *user)?;
+    }
+    Ok(())
+}
+
+// Gives the row of `t` what its base and its interfaces have.
+fn climb(
+    closed: &Closed,
+    matrix: &mut Matrix,
+    agenda: &mut Agenda,
+    t: u16,
+) -> Result<(), AllocError>
+    requires count { matrix.old.count ≡ length closed.now.types }
+    requires distinct { IsDistinct closed.now.types }
+    ensures { Improves closed.now matrix.old matrix.new }
+{
+    if t >= matrix.count {
+        return Ok(());
+    }
+    let by_base = absorb_base(closed, matrix, t);
+    let by_interfaces = absorb_interfaces(closed, matrix, t);
+    if by_base | by_interfaces {
+        return agenda.add(t);
+    }
+    Ok(())
+}
+
+// Asks anew how `t` and each other type vary.
+fn vary(closed: &Closed, matrix: &mut Matrix, agenda: &mut Agenda, t: u16) -> Result<(), AllocError>
+    requires count { matrix.old.count ≡ length closed.now.types }
+    requires distinct { IsDistinct closed.now.types }
+    requires closed { IsClosedUnder closed.now.decls.list closed.now.types }
+    ensures { Improves closed.now matrix.old matrix.new }
+{
+    if t >= matrix.count {
+        return Ok(());
+    }
+    for u in 0..matrix.count {
+        ask(closed, matrix, agenda, t, u)?;
+        ask(closed, matrix, agenda, u, t)?;
+    }
+    Ok(())
+}
+
+fn ask(
+    closed: &Closed,
+    matrix: &mut Matrix,
+    agenda: &mut Agenda,
+    t: u16,
+    u: u16,
+) -> Result<(), AllocError>
+    requires count { matrix.old.count ≡ length closed.now.types }
+    requires distinct { IsDistinct closed.now.types }
+    requires closed { IsClosedUnder closed.now.decls.list closed.now.types }
+    requires first { t < matrix.old.count }
+    requires second { u < matrix.old.count }
+    ensures { Improves closed.now matrix.old matrix.new }
+{
+    if relate(closed, matrix, t, u) {
+        return agenda.add(t);
+    }
+    Ok(())
+}

@@ -1,0 +1,7 @@
+pub mod AddLemmas
+pub mod BaseLemmas
+pub mod Declared
+pub mod EntryLemmas
+pub mod LawfulLemmas
+pub mod NumberLemmas
+pub mod WalkLemmas

@@ -1,0 +1,10 @@
+use Rattle.std.proofs.Common.{subst}
+use Rattle.indexmap.specs.IndexSet.{keys}
+use Rattle.vsd_types.specs.ClosedList.{IsClosedUnder}
+use Rattle.vsd_types.specs.TypeList.{TypeList}
+use Rattle.vsd_types.proofs.EntryLemmas.{entries-closed}
+use Rattle.vsd_types.proofs.closed.Closed.count.Goals as goal
+
+pub returns-clause-closed : goal.returns-clause-closed
+returns-clause-closed c =
+    subst (λ (v : TypeList). IsClosedUnder v.decls.list v.types) c.self.view_is (entries-closed c.self.inside.origin.decls.list (keys c.self.inside.types) c.self.inside.entries c.self.invariant)

@@ -1,0 +1,6 @@
+pub mod ClosedList
+pub mod Closing
+pub mod Entries
+pub mod Numbers
+pub mod TypeList
+pub mod Types
