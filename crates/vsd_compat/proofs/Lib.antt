@@ -1,3 +1,4 @@
+-- Lemmas that several proofs of this crate share.
 pub mod Bits
 pub mod Completeness
 pub mod Improving

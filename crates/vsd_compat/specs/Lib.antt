@@ -1,3 +1,4 @@
+-- What contracts of this crate cite.
 pub mod Compatibility
 pub mod Matrices
 pub mod Moving

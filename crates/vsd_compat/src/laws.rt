@@ -1,4 +1,4 @@
-// What the definition of compatibility comes to.
+//! What the definition of compatibility comes to.
 ghost use Rattle.std.specs.Prelude.{◌≡◌, Bool, List, true};
 ghost use Rattle.vsd_terms.specs.declared.term.Term.{Term};
 ghost use Rattle.vsd_ast.specs.declared.declarations.Decl.{Decl};

@@ -1,3 +1,4 @@
+-- Lemmas that several proofs of this crate share.
 pub mod AddLemmas
 pub mod BaseLemmas
 pub mod Declared

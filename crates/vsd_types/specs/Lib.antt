@@ -1,3 +1,4 @@
+-- What contracts of this crate cite.
 pub mod ClosedList
 pub mod Closing
 pub mod Entries

@@ -1,3 +1,5 @@
+//! What is kept of a listed type.
+
 use crate::kind::Kind;
 use sqlite_items::Items;
 

@@ -1,3 +1,4 @@
+//! Why a list of types cannot be closed.
 ghost use Rattle.std.specs.Prelude.{◌≡◌};
 ghost use Rattle.vsd_types.specs.declared.error.CloseError.TheVariants.{Memory};
 
