@@ -1,0 +1,8 @@
+-- What each part of a call leaves of the caller's view.
+use Rattle.std.specs.Prelude.{◌≡◌}
+use Rattle.vsd_rule.specs.declared.view.View.{View}
+
+-- the pin, and all that is known of handles
+pub record Goes (old new : View) : Type 0 where
+  pub pinned : new.rows.pinned ≡ old.rows.pinned
+  pub handles : new.handles ≡ old.handles

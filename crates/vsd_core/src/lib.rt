@@ -1,0 +1,10 @@
+//! Calls over the shared table. So far: the parts of a call that change what cells and buckets name.
+#![tactic(auto)]
+
+mod caching;
+mod installing;
+mod patching;
+
+pub use caching::cache;
+pub use installing::install;
+pub use patching::patch;
