@@ -1,9 +1,10 @@
 // The tokens of the language by hand, in plain Rust: what the proved lexer is measured against.
-// It reads a text from standard input, lexes it as many times as its argument says, and prints a sum.
-use std::io::Read;
+// It reads a text from standard input, lexes it as many times as its argument says, and prints a sum; with 0 it
+// prints every token, or the refusal.
+use std::io::{BufWriter, Read, Write};
 
-#[derive(Clone, Copy, PartialEq, Eq)]
-pub enum Kind {
+#[derive(Clone, Copy, Debug)]
+pub enum TokenKind {
     Word,
     Quoted,
     Number,
@@ -15,12 +16,13 @@ pub enum Kind {
 
 #[derive(Clone, Copy)]
 pub struct Token {
-    pub kind: Kind,
+    pub kind: TokenKind,
     pub start: u32,
     pub end: u32,
     pub line: u32,
 }
 
+#[derive(Debug)]
 pub enum LexError {
     BadByte { line: u32 },
     OpenComment { line: u32 },
@@ -28,23 +30,25 @@ pub enum LexError {
     TooLong,
 }
 
-#[derive(Clone, Copy, PartialEq, Eq)]
+#[derive(Clone, Copy)]
 enum Class {
-    Bad,
-    Space,
-    Feed,
     Letter,
     Digit,
-    Mark,
+    Symbol,
+    Space,
+    LineFeed,
+    Opening,
+    Bad,
 }
 
 const fn class_of(byte: u8) -> Class {
     match byte {
-        b'\n' => Class::Feed,
-        b'\t' | b'\r' | b' ' => Class::Space,
-        b'0'..=b'9' => Class::Digit,
         b'a'..=b'z' | b'A'..=b'Z' | b'_' | b'$' | b'@' | b'?' | b'.' | b'`' => Class::Letter,
-        33..=126 => Class::Mark,
+        b'0'..=b'9' => Class::Digit,
+        b'\t' | b'\r' | b' ' => Class::Space,
+        b'\n' => Class::LineFeed,
+        b'"' | b'\'' | b'/' | b':' | b'%' => Class::Opening,
+        b'!'..=b'~' => Class::Symbol,
         _ => Class::Bad,
     }
 }
@@ -59,12 +63,66 @@ static CLASSES: [Class; 256] = {
     table
 };
 
-fn run_end(text: &[u8], start: usize) -> usize {
-    let mut at = start;
-    while at < text.len() && matches!(CLASSES[text[at] as usize], Class::Letter | Class::Digit) {
+static RUN_BYTES: [bool; 256] = {
+    let mut table = [false; 256];
+    let mut byte = 0;
+    while byte < 256 {
+        table[byte] = matches!(CLASSES[byte], Class::Letter | Class::Digit);
+        byte += 1;
+    }
+    table
+};
+
+fn run_end(text: &[u8], mut at: usize) -> usize {
+    while at < text.len() && RUN_BYTES[text[at] as usize] {
         at += 1;
     }
     at
+}
+
+/// The place after the comment whose `/*` ends before `at`.
+fn comment_end(text: &[u8], mut at: usize, line: &mut u32) -> Result<usize, LexError> {
+    let opened = *line;
+    loop {
+        match text.get(at) {
+            None => return Err(LexError::OpenComment { line: opened }),
+            Some(b'*') if text.get(at + 1) == Some(&b'/') => return Ok(at + 2),
+            Some(b'\n') => *line += 1,
+            Some(_) => {}
+        }
+        at += 1;
+    }
+}
+
+/// The place of the single quote that closes the one before `at`.
+fn quoted_end(text: &[u8], mut at: usize, line: u32) -> Result<usize, LexError> {
+    loop {
+        match text.get(at) {
+            None | Some(b'\n') => return Err(LexError::OpenQuote { line }),
+            Some(b'\'') => return Ok(at),
+            Some(b'\\') => return Err(LexError::BadByte { line }),
+            Some(b' '..=b'~') => at += 1,
+            Some(_) => return Err(LexError::BadByte { line }),
+        }
+    }
+}
+
+/// The place of the double quote that closes the one before `at`.
+fn text_end(text: &[u8], mut at: usize, line: &mut u32) -> Result<usize, LexError> {
+    let opened = *line;
+    loop {
+        match text.get(at) {
+            None | Some(b'\n') => return Err(LexError::OpenQuote { line: opened }),
+            Some(b'"') => return Ok(at),
+            Some(b'\\') => {
+                if text.get(at + 1) == Some(&b'\n') {
+                    *line += 1;
+                }
+                at += 2;
+            }
+            Some(_) => at += 1,
+        }
+    }
 }
 
 pub fn lex(text: &[u8]) -> Result<Vec<Token>, LexError> {
@@ -72,109 +130,101 @@ pub fn lex(text: &[u8]) -> Result<Vec<Token>, LexError> {
         return Err(LexError::TooLong);
     }
     let mut tokens = Vec::new();
+    let mut push = |kind, start: usize, end: usize, line| {
+        tokens.push(Token { kind, start: start as u32, end: end as u32, line });
+    };
     let mut at = if text.starts_with(b"\xef\xbb\xbf") { 3 } else { 0 };
     let mut line = 1u32;
     while at < text.len() {
         let byte = text[at];
-        let (kind, start, end) = match CLASSES[byte as usize] {
-            Class::Space => {
-                at += 1;
-                continue;
+        let start = at;
+        match CLASSES[byte as usize] {
+            Class::Letter => {
+                at = run_end(text, at + 1);
+                push(TokenKind::Word, start, at, line);
             }
-            Class::Feed => {
+            Class::Digit => {
+                at = run_end(text, at + 1);
+                push(TokenKind::Number, start, at, line);
+            }
+            Class::Symbol => {
+                at += 1;
+                push(TokenKind::Symbol(byte), start, at, line);
+            }
+            Class::Space => at += 1,
+            Class::LineFeed => {
+                at += 1;
                 line += 1;
-                at += 1;
-                continue;
             }
-            Class::Bad => return Err(LexError::BadByte { line }),
-            Class::Letter => (Kind::Word, at, run_end(text, at + 1)),
-            Class::Digit => (Kind::Number, at, run_end(text, at + 1)),
-            Class::Mark => match byte {
-                b'/' if text.get(at + 1) == Some(&b'/') => {
+            Class::Opening => match (byte, text.get(at + 1)) {
+                (b'/', Some(b'/')) => {
                     while at < text.len() && text[at] != b'\n' {
                         at += 1;
                     }
-                    continue;
                 }
-                b'/' if text.get(at + 1) == Some(&b'*') => {
+                (b'/', Some(b'*')) => at = comment_end(text, at + 2, &mut line)?,
+                (b'\'', _) => {
+                    at = quoted_end(text, at + 1, line)? + 1;
+                    push(TokenKind::Quoted, start + 1, at - 1, line);
+                }
+                (b'"', _) => {
                     let opened = line;
+                    at = text_end(text, at + 1, &mut line)? + 1;
+                    push(TokenKind::Text, start + 1, at - 1, opened);
+                }
+                (b':', Some(b':')) => {
                     at += 2;
-                    loop {
-                        match text.get(at) {
-                            None => return Err(LexError::OpenComment { line: opened }),
-                            Some(b'*') if text.get(at + 1) == Some(&b'/') => break,
-                            Some(b'\n') => line += 1,
-                            Some(_) => {}
-                        }
-                        at += 1;
-                    }
+                    push(TokenKind::Colons, start, at, line);
+                }
+                (b'%', Some(b'%')) => {
                     at += 2;
-                    continue;
+                    push(TokenKind::Percents, start, at, line);
                 }
-                b'\'' => {
-                    let start = at + 1;
-                    let mut end = start;
-                    loop {
-                        match text.get(end) {
-                            None | Some(b'\n') => return Err(LexError::OpenQuote { line }),
-                            Some(b'\'') => break,
-                            Some(b'\\') => return Err(LexError::BadByte { line }),
-                            Some(32..=126) => end += 1,
-                            Some(_) => return Err(LexError::BadByte { line }),
-                        }
-                    }
-                    tokens.push(Token { kind: Kind::Quoted, start: start as u32, end: end as u32, line });
-                    at = end + 1;
-                    continue;
+                _ => {
+                    at += 1;
+                    push(TokenKind::Symbol(byte), start, at, line);
                 }
-                b'"' => {
-                    let start = at;
-                    let opened = line;
-                    let mut end = start + 1;
-                    loop {
-                        match text.get(end) {
-                            None | Some(b'\n') => return Err(LexError::OpenQuote { line: opened }),
-                            Some(b'"') => break,
-                            Some(b'\\') => {
-                                if text.get(end + 1) == Some(&b'\n') {
-                                    line += 1;
-                                }
-                                end += 2;
-                            }
-                            Some(_) => end += 1,
-                        }
-                    }
-                    tokens.push(Token { kind: Kind::Text, start: start as u32, end: end as u32 + 1, line: opened });
-                    at = end + 1;
-                    continue;
-                }
-                b':' if text.get(at + 1) == Some(&b':') => (Kind::Colons, at, at + 2),
-                b'%' if text.get(at + 1) == Some(&b'%') => (Kind::Percents, at, at + 2),
-                symbol => (Kind::Symbol(symbol), at, at + 1),
             },
-        };
-        tokens.push(Token { kind, start: start as u32, end: end as u32, line });
-        at = end;
+            Class::Bad => return Err(LexError::BadByte { line }),
+        }
     }
     Ok(tokens)
 }
 
-fn main() {
+fn sum_of(text: &[u8]) -> u64 {
+    match lex(text) {
+        Ok(tokens) => {
+            let last = tokens.last().map_or(0, |token| u64::from(token.end) + u64::from(token.line));
+            tokens.len() as u64 + last
+        }
+        Err(_) => 0,
+    }
+}
+
+fn print_tokens(text: &[u8]) -> std::io::Result<()> {
+    let mut out = BufWriter::new(std::io::stdout().lock());
+    match lex(text) {
+        Ok(tokens) => {
+            for token in &tokens {
+                writeln!(out, "{:?} {} {} {}", token.kind, token.start, token.end, token.line)?;
+            }
+        }
+        Err(refusal) => writeln!(out, "{refusal:?}")?,
+    }
+    out.flush()
+}
+
+fn main() -> std::io::Result<()> {
     let rounds: u32 = std::env::args().nth(1).and_then(|word| word.parse().ok()).unwrap_or(1);
     let mut text = Vec::new();
-    std::io::stdin().read_to_end(&mut text).expect("standard input");
+    std::io::stdin().read_to_end(&mut text)?;
+    if rounds == 0 {
+        return print_tokens(&text);
+    }
     let mut sum = 0u64;
     for _ in 0..rounds {
-        match lex(std::hint::black_box(&text)) {
-            Ok(tokens) => {
-                let last = tokens.last().map_or(0, |token| u64::from(token.end) + u64::from(token.line));
-                sum = sum.wrapping_add(tokens.len() as u64).wrapping_add(last);
-            }
-            Err(LexError::BadByte { line } | LexError::OpenComment { line } | LexError::OpenQuote { line }) => {
-                sum = sum.wrapping_add(u64::from(line));
-            }
-            Err(LexError::TooLong) => {}
-        }
+        sum = sum.wrapping_add(sum_of(std::hint::black_box(&text)));
     }
     println!("{sum}");
+    Ok(())
 }

@@ -1,3 +1,4 @@
+-- What contracts of this crate cite.
 pub mod Lexeme
 pub mod Reserved
 pub mod FirstForm

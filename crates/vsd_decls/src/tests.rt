@@ -1,4 +1,4 @@
-// The reader on whole texts.
+//! The reader on whole texts.
 
 use crate::{DeclError, Form, read_first};
 use std::test::Fail;

@@ -1,11 +1,11 @@
 -- A reading goes on from its place within the list, and never changes the list.
 use Rattle.std.proofs.Common.{◌≡◌, ℕ, zero, suc, ◌+◌, ◌≤◌, ◌<◌, Bool, true, false, cond, ltb, List, [], ◌∷◌, length, Option, Some, None, Result, Ok, Err, refl, ap, ◌∙◌, arith}
-use Rattle.vsd_grammar.specs.declared.peek.Peek.{Peek}
-use Rattle.vsd_grammar.specs.declared.refusal.Cause.{Cause}
-use Rattle.vsd_grammar.specs.declared.refusal.Cause.TheVariants.{Unexpected}
-use Rattle.vsd_grammar.specs.declared.peek.Peek.TheVariants as peek
-use Rattle.vsd_grammar.specs.Input.{Input, State, Seen, peek_at, next, left, is_end, is_comma, class_of, hand_of}
-use Rattle.vsd_grammar.specs.Grammar.{G, ret, fail, hand, pass, count, bind, optional, separated, until, Outcome, and_then, counted, tested, surplus, after_item, after_turn, refusal, items, turns, run}
+use Rattle.vsd_grammar.specs.declared.token_class.TokenClass.{TokenClass}
+use Rattle.vsd_grammar.specs.declared.cause.Cause.{Cause}
+use Rattle.vsd_grammar.specs.declared.cause.Cause.TheVariants.{Unexpected}
+use Rattle.vsd_grammar.specs.declared.token_class.TokenClass.TheVariants as class
+use Rattle.vsd_grammar.specs.Input.{Input, State, Seen, class_at, next, left, is_end, is_comma, class_of, lookahead_of}
+use Rattle.vsd_grammar.specs.Grammar.{G, ret, refuse, refuse_at, lookahead, pass, count, bind, optional, separated, until, Outcome, and_then, counted, tested, tried, surplus, after_item, after_turn, syntax_error, items, turns, run}
 use Rattle.std.specs.List.{slice_get}
 use Rattle.std.proofs.lemmas.Option.{slice_get_within}
 
@@ -29,12 +29,12 @@ within_then i (Err e) f w h = w
 within_here : (A : Type 0) (x : A) (i : Input) → Within {A = A} i (Ok (x, i))
 within_here A x i = (omega arith, omega arith, refl)
 
-pub within_refusal : (A : Type 0) (i : Input) (cause : Cause) → Within {A = A} i (Err (refusal i cause))
+pub within_refusal : (A : Type 0) (i : Input) (cause : Cause) → Within {A = A} i (Err (syntax_error i cause))
 within_refusal A i cause = (omega arith, omega arith)
 
 -- a token at hand is one of those left
-pub some_left : (i : Input) → is_end (peek_at i) ≡ false → 0 < left i
-unfolding peek_at
+pub some_left : (i : Input) → is_end (class_at i) ≡ false → 0 < left i
+unfolding class_at
 some_left i e = go (slice_get i.all i.at) refl e
   where
     go : (t : Option Seen) → slice_get i.all i.at ≡ t → is_end (class_of t) ≡ false → 0 < left i
@@ -44,7 +44,7 @@ some_left i e = go (slice_get i.all i.at) refl e
 within_next : {A : Type 0} (i : Input) (o : Outcome A) → 0 < left i → Within (next i) o → Within i o
 within_next i o some w = within_on i (next i) o (omega arith) (omega arith) refl w
 
-within_pass : (i : Input) (b : Bool) → is_end (peek_at i) ≡ b → Within {A = Unit {0}} i (cond b (Err (refusal i Unexpected)) (Ok (tt {0}, next i)))
+within_pass : (i : Input) (b : Bool) → is_end (class_at i) ≡ b → Within {A = Unit {0}} i (cond b (Err (syntax_error i Unexpected)) (Ok (tt {0}, next i)))
 within_pass i true e = within_refusal (Unit {0}) i Unexpected
 within_pass i false e = within_next {A = Unit {0}} i (Ok (tt {0}, next i)) (some_left i e) (within_here (Unit {0}) (tt {0}) (next i))
 
@@ -57,36 +57,36 @@ within_tested None i o w = w
 within_tested {A} (Some cause) i o w = within_refusal A i cause
 
 -- a comma is a token
-comma_is_some : (i : Input) → is_comma (peek_at i) ≡ true → is_end (peek_at i) ≡ false
-comma_is_some i e = go (peek_at i) e
+comma_is_some : (i : Input) → is_comma (class_at i) ≡ true → is_end (class_at i) ≡ false
+comma_is_some i e = go (class_at i) e
   where
-    go : (q : Peek) → is_comma q ≡ true → is_end q ≡ false
-    go peek.End h = absurd (cc)
+    go : (q : TokenClass) → is_comma q ≡ true → is_end q ≡ false
+    go class.End h = absurd (cc)
     go _ h = refl
 
-pub some_left_comma : (i : Input) → is_comma (peek_at i) ≡ true → 0 < left i
+pub some_left_comma : (i : Input) → is_comma (class_at i) ≡ true → 0 < left i
 some_left_comma i e = some_left i (comma_is_some i e)
 
-pub within_after_item : {A : Type 0} (x : A) (b : Bool) (k : Input) (o : Outcome (List A)) → is_comma (peek_at k) ≡ b → Within (next k) o → Within k (after_item x b k o)
+pub within_after_item : {A : Type 0} (x : A) (b : Bool) (k : Input) (o : Outcome (List A)) → is_comma (class_at k) ≡ b → Within (next k) o → Within k (after_item x b k o)
 within_after_item {A} x true k o e w = within_next k _ (some_left_comma k e) (within_then (next k) o _ w (λ xs j. within_here (List A) (x ∷ xs) j))
 within_after_item {A} x false k o e w = within_here (List A) (x ∷ []) k
 
-pub within_items : {A : Type 0} (first : Peek → Option Cause) (many : Cause) (item : Input → Outcome A) → ((i : Input) → Within i (item i))
+pub within_items : {A : Type 0} (first : TokenClass → List ℕ → Option Cause) (many : Cause) (item : Input → Outcome A) → ((i : Input) → Within i (item i))
     → (room : ℕ) (i : Input) → Within i (items first many item room i)
 unfolding items
-within_items {A} first many item h zero i = within_refusal (List A) i (surplus (first (peek_at i)) many)
-within_items {A} first many item h (suc room) i = within_then i (tested (first (peek_at i)) i (item i)) _ (within_tested (first (peek_at i)) i (item i) (h i))
-    (λ x k. within_after_item x (is_comma (peek_at k)) k _ refl (within_items first many item h room (next k)))
+within_items {A} first many item h zero i = within_refusal (List A) i (surplus (tried first i) many)
+within_items {A} first many item h (suc room) i = within_then i (tested (tried first i) i (item i)) _ (within_tested (tried first i) i (item i) (h i))
+    (λ x k. within_after_item x (is_comma (class_at k)) k _ refl (within_items first many item h room (next k)))
 
 pub within_after_turn : {S : Type 0} (b : Bool) (k : Input) (o : Outcome S) → Within k o → Within k (after_turn b k o)
 within_after_turn true k o w = w
 within_after_turn {S} false k o w = within_refusal S k Unexpected
 
-pub within_turns : {S : Type 0} (stop : Peek → S → Bool) (step : S → Input → Outcome S) → ((s : S) (i : Input) → Within i (step s i))
+pub within_turns : {S : Type 0} (stop : TokenClass → S → Bool) (step : S → Input → Outcome S) → ((s : S) (i : Input) → Within i (step s i))
     → (n : ℕ) (s : S) (i : Input) → Within i (turns stop step n s i)
 unfolding turns
 within_turns {S} stop step h zero s i = within_refusal S i Unexpected
-within_turns {S} stop step h (suc n) s i = stopped (stop (peek_at i) s) _ (within_then i (step s i) _ (h s i)
+within_turns {S} stop step h (suc n) s i = stopped (stop (class_at i) s) _ (within_then i (step s i) _ (h s i)
     (λ t k. within_after_turn (ltb i.at k.at) k _ (within_turns stop step h n t k)))
   where
     stopped : (b : Bool) (o : Outcome S) → Within i o → Within i (cond b (Ok (s, i)) o)
@@ -99,11 +99,12 @@ within_optional {A} false i o w = within_here (Option A) None i
 
 pub within : (A : Type 0) (g : G A) (i : Input) → Within i (run A g i)
 within _ (ret A a) i = within_here A a i
-within _ (fail A place cause) i = (omega arith, omega arith)
-within _ hand i = within_here _ (hand_of i) i
-within _ pass i = within_pass i (is_end (peek_at i)) refl
+within _ (refuse A cause) i = within_refusal A i cause
+within _ (refuse_at A index cause) i = (omega arith, omega arith)
+within _ lookahead i = within_here _ (lookahead_of i) i
+within _ pass i = within_pass i (is_end (class_at i)) refl
 within _ (count A step) i = within_counted i (step i.state)
 within _ (bind A B p f) i = within_then i (run A p i) _ (within A p i) (λ x k. within B (f x) k)
-within _ (optional A begins p) i = within_optional (begins (peek_at i)) i (run A p i) (within A p i)
+within _ (optional A begins p) i = within_optional (begins (class_at i)) i (run A p i) (within A p i)
 within _ (separated A first many p room) i = within_items first many (run A p) (within A p) room i
 within _ (until S stop step s) i = within_turns stop (λ t. run S (step t)) (λ t k. within S (step t) k) (suc (left i)) s i

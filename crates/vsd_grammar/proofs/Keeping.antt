@@ -3,11 +3,11 @@ use Rattle.std.proofs.Common.{◌≡◌, ℕ, zero, suc, ◌+◌, ◌≤◌, ◌
 use Rattle.std.specs.List.{slice_get}
 use Rattle.std.proofs.lemmas.Bool.{ltb-true}
 use Rattle.std.proofs.lemmas.Option.{slice_get_within, slice_get_cases}
-use Rattle.vsd_grammar.specs.declared.peek.Peek.{Peek}
-use Rattle.vsd_grammar.specs.declared.refusal.Cause.{Cause}
-use Rattle.vsd_grammar.specs.declared.refusal.Cause.TheVariants.{Unexpected}
-use Rattle.vsd_grammar.specs.Input.{Seen, Input, State, class_of, bytes_of, peek_at, bytes_at, next, left, is_end, is_comma, hand_of}
-use Rattle.vsd_grammar.specs.Grammar.{G, ret, fail, hand, pass, count, bind, optional, separated, until, Outcome, and_then, counted, tested, surplus, after_item, after_turn, refusal, items, turns, run}
+use Rattle.vsd_grammar.specs.declared.token_class.TokenClass.{TokenClass}
+use Rattle.vsd_grammar.specs.declared.cause.Cause.{Cause}
+use Rattle.vsd_grammar.specs.declared.cause.Cause.TheVariants.{Unexpected}
+use Rattle.vsd_grammar.specs.Input.{Seen, Input, State, class_of, bytes_of, line_of, class_at, bytes_at, line_at, next, left, is_end, is_comma, lookahead_of}
+use Rattle.vsd_grammar.specs.Grammar.{G, ret, refuse, refuse_at, lookahead, pass, count, bind, optional, separated, until, Outcome, and_then, counted, tested, tried, surplus, after_item, after_turn, syntax_error, items, turns, run}
 use Rattle.vsd_grammar.specs.Laws.{SameUpTo, over}
 use Rattle.vsd_grammar.proofs.Bounds.{reach, Within, within, within_items, within_turns, within_tested, within_after_item, within_after_turn}
 
@@ -35,17 +35,26 @@ keeps_then ys i (Ok r) p f g w h inside more same =
     ap (λ t. and_then t g) (h near) ∙ more r.0 r.1 refl near after
 keeps_then ys i (Err e) p f g w h inside more same = ap (λ t. and_then t g) (h same)
 
-peek_over : (ys : List Seen) (i : Input) (n : ℕ) → i.at ≤ n → SameUpTo n i.all ys → peek_at (over ys i) ≡ peek_at i
-unfolding peek_at
-peek_over ys i n h same = ap class_of (sym (same i.at h))
+class_over : (ys : List Seen) (i : Input) (n : ℕ) → i.at ≤ n → SameUpTo n i.all ys → class_at (over ys i) ≡ class_at i
+unfolding class_at
+class_over ys i n h same = ap class_of (sym (same i.at h))
 
-hand_over : (ys : List Seen) (i : Input) → SameUpTo i.at i.all ys → hand_of (over ys i) ≡ hand_of i
-unfolding peek_at bytes_at
-hand_over ys i same = ap (λ t. record { place = i.at; peek = class_of t; bytes = bytes_of t }) (sym (same i.at (omega arith)))
+lookahead_over : (ys : List Seen) (i : Input) → SameUpTo i.at i.all ys → lookahead_of (over ys i) ≡ lookahead_of i
+unfolding class_at bytes_at line_at
+lookahead_over ys i same = ap (λ t. record { index = i.at; class = class_of t; bytes = bytes_of t; line = line_of t }) (sym (same i.at (omega arith)))
+
+tried_over : (ys : List Seen) (i : Input) (n : ℕ) (first : TokenClass → List ℕ → Option Cause) → i.at ≤ n → SameUpTo n i.all ys → tried first (over ys i) ≡ tried first i
+unfolding class_at bytes_at
+tried_over ys i n first h same = ap (λ t. first (class_of t) (bytes_of t)) (sym (same i.at h))
 
 -- what depends on the class of the token at hand may take it from the first list
-at_hand : {A : Type 0} (ys : List Seen) (i : Input) (o : Outcome A) (p : Peek → Outcome A) → Within i o → Keeps ys i o (p (peek_at i)) → Keeps ys i o (p (peek_at (over ys i)))
-at_hand ys i o p w h same = ap p (peek_over ys i (reach o) (reach_from i o w) same) ∙ h same
+at_hand : {A : Type 0} (ys : List Seen) (i : Input) (o : Outcome A) (p : TokenClass → Outcome A) → Within i o → Keeps ys i o (p (class_at i)) → Keeps ys i o (p (class_at (over ys i)))
+at_hand ys i o p w h same = ap p (class_over ys i (reach o) (reach_from i o w) same) ∙ h same
+
+-- and so may what depends on the test of the token at hand
+at_test : {A : Type 0} (ys : List Seen) (i : Input) (o : Outcome A) (first : TokenClass → List ℕ → Option Cause) (p : Option Cause → Outcome A) → Within i o
+    → Keeps ys i o (p (tried first i)) → Keeps ys i o (p (tried first (over ys i)))
+at_test ys i o first p w h same = ap p (tried_over ys i (reach o) first (reach_from i o w) same) ∙ h same
 
 within_ok : (A : Type 0) (x : A) (i : Input) → Within {A = A} i (Ok (x, i))
 within_ok A x i = (omega arith, omega arith, refl)
@@ -63,29 +72,29 @@ keeps_after_item : {A : Type 0} (ys : List Seen) (x : A) (b : Bool) (k : Input) 
 keeps_after_item {A} ys x true k o p w h = keeps_then ys (next k) o p (λ xs j. Ok (x ∷ xs, j)) (λ xs j. Ok (x ∷ xs, j)) w h (λ xs j. within_ok (List A) (x ∷ xs) j) (λ xs j e near same. refl)
 keeps_after_item ys x false k o p w h = λ same. refl
 
-keeps_items : {A : Type 0} (first : Peek → Option Cause) (many : Cause) (item : Input → Outcome A) (ys : List Seen)
+keeps_items : {A : Type 0} (first : TokenClass → List ℕ → Option Cause) (many : Cause) (item : Input → Outcome A) (ys : List Seen)
     → ((i : Input) → Within i (item i)) → ((i : Input) → Keeps ys i (item i) (item (over ys i)))
     → (room : ℕ) (i : Input) → Keeps ys i (items first many item room i) (items first many item room (over ys i))
 unfolding items
-keeps_items first many item ys w h zero i = at_hand ys i (items first many item 0 i) (λ q. Err (refusal i (surplus (first q) many))) (within_items first many item w zero i) (λ same. refl)
+keeps_items first many item ys w h zero i = at_test ys i (items first many item 0 i) first (λ c. Err (syntax_error i (surplus c many))) (within_items first many item w zero i) (λ same. refl)
 keeps_items {A} first many item ys w h (suc room) i =
-    at_hand ys i (items first many item (suc room) i) (λ q. and_then (tested (first q) (over ys i) (item (over ys i))) onward) (within_items first many item w (suc room) i)
-    (keeps_then ys i (tested (first (peek_at i)) i (item i)) (tested (first (peek_at i)) (over ys i) (item (over ys i))) onward onward (within_tested (first (peek_at i)) i (item i) (w i))
-    (keeps_tested ys i (first (peek_at i)) (item i) (item (over ys i)) (h i)) inside
+    at_test ys i (items first many item (suc room) i) first (λ c. and_then (tested c (over ys i) (item (over ys i))) onward) (within_items first many item w (suc room) i)
+    (keeps_then ys i (tested (tried first i) i (item i)) (tested (tried first i) (over ys i) (item (over ys i))) onward onward (within_tested (tried first i) i (item i) (w i))
+    (keeps_tested ys i (tried first i) (item i) (item (over ys i)) (h i)) inside
     (λ x k e near. after x k (keeps_items first many item ys w h room (next k))))
   where
     others : Input → Outcome (List A)
     others k = items first many item room (next k)
 
     onward : A → Input → Outcome (List A)
-    onward x k = after_item x (is_comma (peek_at k)) k (others k)
+    onward x k = after_item x (is_comma (class_at k)) k (others k)
 
     inside : (x : A) (k : Input) → Within k (onward x k)
-    inside x k = within_after_item x (is_comma (peek_at k)) k (others k) refl (within_items first many item w room (next k))
+    inside x k = within_after_item x (is_comma (class_at k)) k (others k) refl (within_items first many item w room (next k))
 
     after : (x : A) (k : Input) → Keeps ys (next k) (others k) (others (over ys k)) → Keeps ys k (onward x k) (onward x (over ys k))
     after x k h = at_hand ys k (onward x k) (λ q. after_item x (is_comma q) (over ys k) (others (over ys k))) (inside x k)
-        (keeps_after_item ys x (is_comma (peek_at k)) k (others k) (others (over ys k)) (within_items first many item w room (next k)) h)
+        (keeps_after_item ys x (is_comma (class_at k)) k (others k) (others (over ys k)) (within_items first many item w room (next k)) h)
 
 keeps_after_turn : {S : Type 0} (ys : List Seen) (b : Bool) (k : Input) (o p : Outcome S) → Keeps ys k o p → Keeps ys k (after_turn b k o) (after_turn b (over ys k) p)
 keeps_after_turn ys true k o p h = h
@@ -110,7 +119,7 @@ fewer_left_over ys i k n moved high near h =
 pub within_result : {A : Type 0} (i : Input) (o : Outcome A) (x : A) (k : Input) → Within i o → o ≡ Ok (x, k) → (i.at ≤ k.at) × (k.at ≤ i.at + left i) × (k.all ≡ i.all)
 within_result i o x k w e = subst (Within i) e w
 
-keeps_turns : {S : Type 0} (stop : Peek → S → Bool) (step : S → Input → Outcome S) (ys : List Seen)
+keeps_turns : {S : Type 0} (stop : TokenClass → S → Bool) (step : S → Input → Outcome S) (ys : List Seen)
     → ((s : S) (i : Input) → Within i (step s i)) → ((s : S) (i : Input) → Keeps ys i (step s i) (step s (over ys i)))
     → (n m : ℕ) (s : S) (i : Input) → left i < n → left (over ys i) < m → Keeps ys i (turns stop step n s i) (turns stop step m s (over ys i))
 unfolding turns
@@ -118,7 +127,7 @@ keeps_turns stop step ys w h zero m s i few few_over = absurd (omega arith)
 keeps_turns stop step ys w h (suc n) zero s i few few_over = absurd (omega arith)
 keeps_turns {S} stop step ys w h (suc n) (suc m) s i few few_over =
     at_hand ys i (turns stop step (suc n) s i) (λ q. cond (stop q s) (Ok (s, over ys i)) (and_then (step s (over ys i)) (onward m))) (within_turns stop step w (suc n) s i)
-    (keeps_cond ys i (stop (peek_at i) s) (Ok (s, i)) (and_then (step s i) (onward n)) (Ok (s, over ys i)) (and_then (step s (over ys i)) (onward m)) (λ same. refl)
+    (keeps_cond ys i (stop (class_at i) s) (Ok (s, i)) (and_then (step s i) (onward n)) (Ok (s, over ys i)) (and_then (step s (over ys i)) (onward m)) (λ same. refl)
     (keeps_then ys i (step s i) (step s (over ys i)) (onward n) (onward m) (w s i) (h s i) inside
     (λ t k e near. after t k e near (ltb i.at k.at) refl (keeps_turns stop step ys w h n m t k))))
   where
@@ -143,16 +152,17 @@ keeps_counted ys i (Err cause) = λ same. refl
 
 pub keeps : (A : Type 0) (g : G A) (ys : List Seen) (i : Input) → Keeps ys i (run A g i) (run A g (over ys i))
 keeps _ (ret A a) ys i = λ same. refl
-keeps _ (fail A place cause) ys i = λ same. refl
-keeps _ hand ys i = λ same. ap (λ h. Ok (h, over ys i)) (hand_over ys i same)
-keeps _ pass ys i = at_hand ys i (run (Unit {0}) pass i) (λ q. cond (is_end q) (Err (refusal i Unexpected)) (Ok (tt {0}, next (over ys i)))) (within (Unit {0}) pass i)
-    (keeps_cond ys i (is_end (peek_at i)) (Err (refusal i Unexpected)) (Ok (tt {0}, next i)) (Err (refusal i Unexpected)) (Ok (tt {0}, next (over ys i))) (λ same. refl) (λ same. refl))
+keeps _ (refuse A cause) ys i = λ same. refl
+keeps _ (refuse_at A index cause) ys i = λ same. refl
+keeps _ lookahead ys i = λ same. ap (λ h. Ok (h, over ys i)) (lookahead_over ys i same)
+keeps _ pass ys i = at_hand ys i (run (Unit {0}) pass i) (λ q. cond (is_end q) (Err (syntax_error i Unexpected)) (Ok (tt {0}, next (over ys i)))) (within (Unit {0}) pass i)
+    (keeps_cond ys i (is_end (class_at i)) (Err (syntax_error i Unexpected)) (Ok (tt {0}, next i)) (Err (syntax_error i Unexpected)) (Ok (tt {0}, next (over ys i))) (λ same. refl) (λ same. refl))
 keeps _ (count A step) ys i = keeps_counted ys i (step i.state)
 keeps _ (bind A B p f) ys i = keeps_then ys i (run A p i) (run A p (over ys i)) (λ x k. run B (f x) k) (λ x k. run B (f x) k) (within A p i) (keeps A p ys i) (λ x k. within B (f x) k)
     (λ x k e near. keeps B (f x) ys k)
 keeps _ (optional A begins p) ys i =
     at_hand ys i (run (Option A) (optional A begins p) i) (λ q. cond (begins q) (and_then (run A p (over ys i)) (λ x k. Ok (Some x, k))) (Ok (None, over ys i))) (within (Option A) (optional A begins p) i)
-    (keeps_cond ys i (begins (peek_at i)) (and_then (run A p i) (λ x k. Ok (Some x, k))) (Ok (None, i)) (and_then (run A p (over ys i)) (λ x k. Ok (Some x, k))) (Ok (None, over ys i))
+    (keeps_cond ys i (begins (class_at i)) (and_then (run A p i) (λ x k. Ok (Some x, k))) (Ok (None, i)) (and_then (run A p (over ys i)) (λ x k. Ok (Some x, k))) (Ok (None, over ys i))
     (keeps_then ys i (run A p i) (run A p (over ys i)) (λ x k. Ok (Some x, k)) (λ x k. Ok (Some x, k)) (within A p i) (keeps A p ys i) (λ x k. within_ok (Option A) (Some x) k) (λ x k e near same. refl))
     (λ same. refl))
 keeps _ (separated A first many p room) ys i = keeps_items first many (run A p) ys (within A p) (keeps A p ys) room i

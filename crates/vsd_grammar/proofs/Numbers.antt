@@ -8,10 +8,10 @@ use Rattle.std.proofs.lemmas.Option.{slice_get_within, slice_get-get_or, get_or_
 use Rattle.std.proofs.lemmas.Slice.Eq.{bytes_eq-Decides}
 use Rattle.std.proofs.lemmas.Option.{same_Some}
 use Rattle.vsd_terms.specs.Names.{AreNames, AddsName}
-use Rattle.vsd_grammar.specs.declared.refusal.Cause.TheVariants.{TooMany}
-use Rattle.vsd_grammar.specs.declared.refusal.Counted.TheVariants as limit
+use Rattle.vsd_grammar.specs.declared.cause.Cause.TheVariants.{TooMany}
+use Rattle.vsd_grammar.specs.declared.cause.Counted.TheVariants as limit
 use Rattle.vsd_grammar.specs.Input.{Input}
-use Rattle.vsd_grammar.specs.Grammar.{counted, refusal, run}
+use Rattle.vsd_grammar.specs.Grammar.{counted, syntax_error, run}
 use Rattle.vsd_grammar.specs.Productions.{number, number_by}
 
 is_false : (b : Bool) → (b ≡ true → ⊥) → b ≡ false
@@ -80,6 +80,6 @@ number_new i name n new good absent room adds found =
     below k h r = omega arith
 
 pub number_full : (i : Input) (name : List ℕ) → (Contains i.state.names name → ⊥) → length i.state.names ≡ 2048
-    → run ℕ (number name) i ≡ Err (refusal i (TooMany limit.Names))
+    → run ℕ (number name) i ≡ Err (syntax_error i (TooMany limit.Names))
 number_full i name absent full = new_number i name (position_absent i.state.names name absent)
     ∙ ap (λ b. counted i (cond b (Ok (length i.state.names, record i.state { names = i.state.names ++ name ∷ [] })) (Err (TooMany limit.Names)))) (le-ltb (length i.state.names) 2048 (omega arith))

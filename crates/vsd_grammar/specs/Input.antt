@@ -5,13 +5,15 @@ use Rattle.vsd_text.specs.declared.tokens.TokenKind.{TokenKind}
 use Rattle.vsd_text.specs.declared.tokens.TokenKind.TheVariants as kind
 use Rattle.vsd_grammar.specs.contracts.keyword.Keyword.{the_type}
 use Rattle.vsd_grammar.specs.declared.keyword.Keyword.{Keyword}
-use Rattle.vsd_grammar.specs.declared.peek.Peek.{Peek}
-use Rattle.vsd_grammar.specs.declared.peek.Peek.TheVariants as peek
+use Rattle.vsd_grammar.specs.declared.token_class.TokenClass.{TokenClass}
+use Rattle.vsd_grammar.specs.declared.token_class.TokenClass.TheVariants as class
 use Rattle.vsd_grammar.specs.Words.{keyword_of, begins_with_point}
 
--- a token as the grammar sees it: its kind and its bytes
-abbrev pub Seen : Type 0
-Seen = TokenKind × List ℕ
+-- a token as the grammar sees it: its kind, its bytes, and the number of its line, from 1
+pub record Seen : Type 0 where
+  pub kind : TokenKind
+  pub bytes : List ℕ
+  pub line : ℕ
 
 -- what a reader counts: the nodes of the written term in hand, and the names that have a number, in its order
 pub record State : Type 0 where
@@ -25,43 +27,52 @@ pub record Input : Type 0 where
   pub state : State
 
 -- the class of a Word, by whether it begins with a point
-abbrev pub word_class : Bool → Keyword → Peek
-word_class true k = peek.Directive k
-word_class false k = peek.Word k
+abbrev pub word_class : Bool → Keyword → TokenClass
+word_class true k = class.Directive k
+word_class false k = class.Word k
 
 -- the class of a token of this kind with these bytes
-abbrev pub class_by : TokenKind → List ℕ → Peek
+abbrev pub class_by : TokenKind → List ℕ → TokenClass
 class_by kind.Word bytes = word_class (begins_with_point bytes) (keyword_of bytes)
-class_by kind.Quoted bytes = peek.Quoted
-class_by kind.Number bytes = peek.Number
-class_by kind.Text bytes = peek.Text
-class_by (kind.Symbol b) bytes = peek.Symbol b
-class_by kind.Colons bytes = peek.Colons
-class_by kind.Percents bytes = peek.Percents
+class_by kind.Quoted bytes = class.Quoted
+class_by kind.Number bytes = class.Number
+class_by kind.Text bytes = class.Text
+class_by (kind.Symbol b) bytes = class.Symbol b
+class_by kind.Colons bytes = class.Colons
+class_by kind.Percents bytes = class.Percents
 
 -- the class of the token at hand, and its bytes
-abbrev pub class_of : Option Seen → Peek
-class_of None = peek.End
-class_of (Some t) = class_by t.0 t.1
+abbrev pub class_of : Option Seen → TokenClass
+class_of None = class.End
+class_of (Some t) = class_by t.kind t.bytes
 
 abbrev pub bytes_of : Option Seen → List ℕ
 bytes_of None = []
-bytes_of (Some t) = t.1
+bytes_of (Some t) = t.bytes
 
-unfoldable pub peek_at : Input → Peek
-peek_at i = class_of (slice_get i.all i.at)
+-- its line, and 0 where there is none
+abbrev pub line_of : Option Seen → ℕ
+line_of None = 0
+line_of (Some t) = t.line
+
+unfoldable pub class_at : Input → TokenClass
+class_at i = class_of (slice_get i.all i.at)
 
 unfoldable pub bytes_at : Input → List ℕ
 bytes_at i = bytes_of (slice_get i.all i.at)
 
--- the token at hand: its index, its class and its bytes
-pub record Hand : Type 0 where
-  pub place : ℕ
-  pub peek : Peek
-  pub bytes : List ℕ
+unfoldable pub line_at : Input → ℕ
+line_at i = line_of (slice_get i.all i.at)
 
-abbrev pub hand_of : Input → Hand
-hand_of i = record { place = i.at; peek = peek_at i; bytes = bytes_at i }
+-- the token at hand: its index, its class, its bytes and its line
+pub record Lookahead : Type 0 where
+  pub index : ℕ
+  pub class : TokenClass
+  pub bytes : List ℕ
+  pub line : ℕ
+
+abbrev pub lookahead_of : Input → Lookahead
+lookahead_of i = record { index = i.at; class = class_at i; bytes = bytes_at i; line = line_at i }
 
 -- the place after the token at hand
 abbrev pub next : Input → Input
@@ -71,25 +82,25 @@ next i = record i { at = i.at + 1 }
 abbrev pub left : Input → ℕ
 left i = length i.all - i.at
 
-abbrev pub is_end : Peek → Bool
-is_end peek.End = true
+abbrev pub is_end : TokenClass → Bool
+is_end class.End = true
 is_end _ = false
 
 -- the two classes are the same
 unfoldable pub same_keyword : Keyword → Keyword → Bool
 same_keyword = sameb the_type
 
-abbrev pub same_peek : Peek → Peek → Bool
-same_peek peek.End peek.End = true
-same_peek (peek.Word a) (peek.Word b) = same_keyword a b
-same_peek (peek.Directive a) (peek.Directive b) = same_keyword a b
-same_peek peek.Quoted peek.Quoted = true
-same_peek peek.Number peek.Number = true
-same_peek peek.Text peek.Text = true
-same_peek (peek.Symbol a) (peek.Symbol b) = a == b
-same_peek peek.Colons peek.Colons = true
-same_peek peek.Percents peek.Percents = true
-same_peek _ _ = false
+abbrev pub same_class : TokenClass → TokenClass → Bool
+same_class class.End class.End = true
+same_class (class.Word a) (class.Word b) = same_keyword a b
+same_class (class.Directive a) (class.Directive b) = same_keyword a b
+same_class class.Quoted class.Quoted = true
+same_class class.Number class.Number = true
+same_class class.Text class.Text = true
+same_class (class.Symbol a) (class.Symbol b) = a == b
+same_class class.Colons class.Colons = true
+same_class class.Percents class.Percents = true
+same_class _ _ = false
 
-abbrev pub is_comma : Peek → Bool
-is_comma = same_peek (peek.Symbol 44)
+abbrev pub is_comma : TokenClass → Bool
+is_comma = same_class (class.Symbol 44)

@@ -1,7 +1,7 @@
 -- What the generic loops are told of the closures that they are given.
-use Rattle.std.specs.Prelude.{◌≡◌, Result, Ok, nat_lt}
-use denote.Ref.{MutBor}
-use Rattle.vsd_grammar.specs.declared.refusal.Stop.{Stop}
+use Rattle.std.specs.Prelude.{◌≡◌, ℕ, List, Result, Ok, nat_lt}
+use denote.Ref.{Bor, MutBor}
+use Rattle.vsd_grammar.specs.declared.syntax_error.Stop.{Stop}
 use Rattle.vsd_grammar.specs.Input.{Input}
 use Rattle.vsd_grammar.specs.Grammar.{Outcome, and_then, after_turn}
 use Rattle.vsd_grammar.specs.Productions.{Reads}
@@ -9,6 +9,10 @@ use Rattle.vsd_grammar.specs.Productions.{Reads}
 -- each call of the closure gives the value of this function
 abbrev pub Computes : {A B : Type 0} → (A → B → Type 0) → (A → B) → Type 0
 Computes {A} {B} post f = (x : A) (y : B) → post x y → y ≡ f x
+
+-- each call of the closure with a class and bytes gives the value of this function
+abbrev pub ComputesOfToken : {A C : Type 0} → (A → Bor (List ℕ) → C → Type 0) → (A → List ℕ → C) → Type 0
+ComputesOfToken {A} {C} post f = (x : A) (b : Bor (List ℕ)) (y : C) → post x b y → y ≡ f x b.now
 
 -- each call of the closure gives the value of this function, whatever else that takes
 abbrev pub ComputesFirst : {A S B : Type 0} → (A → B → Type 0) → (A → S → B) → Type 0

@@ -1,5 +1,5 @@
 -- The words of the grammar and of the forms that it refuses, and the key of a Word token.
-use Rattle.std.specs.Prelude.{◌≡◌, ◌==◌, ℕ, Bool, false, if◌then◌else◌, List, [], ◌∷◌, map, codes}
+use Rattle.std.specs.Prelude.{◌≡◌, ◌==◌, ℕ, ◌+◌, ◌-◌, ◌*◌, ◌%◌, length, slice_index, Bool, false, if◌then◌else◌, List, [], ◌∷◌, map, codes, Option, Some, None}
 use Rattle.std.specs.Str.{bytes_eq}
 use Rattle.vsd_grammar.specs.declared.keyword.Keyword.{Keyword}
 use Rattle.vsd_grammar.specs.declared.keyword.Keyword.TheVariants as key
@@ -113,6 +113,15 @@ words =
 abbrev pub lookup : List (List ℕ × Keyword) → List ℕ → Keyword
 lookup [] word = key.Other
 lookup (w ∷ ws) word = if bytes_eq w.0 word then w.1 else lookup ws word
+
+-- the key of an entry of the table, if it is there and is this word
+abbrev pub key_by : Option (List ℕ × Keyword) → List ℕ → Keyword
+key_by None word = key.Other
+key_by (Some w) word = if bytes_eq w.0 word then w.1 else key.Other
+
+-- the slot that a word would have in a table without collisions
+unfoldable pub slot_of : List ℕ → ℕ
+slot_of word = (101 * length word + 424 * slice_index word 0 + 191 * slice_index word 1 + 190 * slice_index word (length word - 1)) % 512
 
 -- the key of a Word
 unfoldable pub keyword_of : List ℕ → Keyword

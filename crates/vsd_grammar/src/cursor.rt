@@ -1,16 +1,17 @@
-// A place in a list of tokens.
-ghost use Rattle.std.specs.Prelude.{◌≡◌, ◌≢◌, ◌<◌, ◌^◌, false, if◌then◌else◌, length, All, Contains};
+//! A place in a list of tokens.
+ghost use Rattle.std.specs.Prelude.{◌≡◌, ◌≢◌, ◌≤◌, min, false, if◌then◌else◌, length, map, slice_get, All, Contains};
 ghost use Rattle.vsd_text.specs.Tokens.{LiesWithin};
 ghost use Rattle.vsd_terms.specs.Names.{AreNames};
-ghost use Rattle.vsd_grammar.specs.Input.{peek_at, bytes_at, class_by, word_class, same_keyword, same_peek, is_end, next, left};
+ghost use Rattle.vsd_grammar.specs.Input.{class_at, bytes_at, line_at, class_of, class_by, word_class, same_keyword, same_class, is_end, next, left};
 ghost use Rattle.vsd_grammar.specs.Words.{keyword_of, begins_with_point};
-ghost use Rattle.vsd_grammar.specs.Place.{start_of, line_of, end_line};
-ghost use Rattle.vsd_grammar.specs.Grammar.{refusal, run, pass};
-ghost use Rattle.vsd_grammar.specs.Productions.{Reads, expect, eat, no_nodes, node, number};
+ghost use Rattle.vsd_grammar.specs.Place.{seen_of, start_of, most_tokens, line_of, end_line};
+ghost use Rattle.vsd_grammar.specs.Grammar.{syntax_error, run, pass};
+ghost use Rattle.vsd_grammar.specs.Productions.{Reads, expect, must_see, eat, no_nodes, node, node_at, number};
 
+use crate::cause::{Cause, Counted};
 use crate::keyword::{Keyword, begins_with_point, keyword_of};
-use crate::peek::Peek;
-use crate::refusal::{Cause, Counted, Refusal, Stop};
+use crate::syntax_error::{Stop, SyntaxError};
+use crate::token_class::TokenClass;
 use sqlite_items::at as token_at;
 use std::marker::Model;
 use vsd_terms::{Names, NamesError};
@@ -26,6 +27,8 @@ pub struct Cursor<'a> {
     tokens: &'a [Token],
     /// The index of the token at hand, or the number of tokens at the end.
     at: usize,
+    /// The class of the token at hand.
+    class: TokenClass,
     /// The nodes of the written term in hand.
     nodes: u8,
     names: Names,
@@ -45,34 +48,33 @@ impl<'a> Model for Cursor<'a> {
 }
 
 impl<'a> Cursor<'a> {
-    /// The place of the first token.
-    pub fn new(text: &'a [u8], tokens: &'a [Token], names: Names) -> Cursor<'a>
-        requires { All (LiesWithin text.now) tokens.now }
-        ensures { result ≡ start_of text.now tokens.now names }
+    /// The place of the token at an index, from 0, with these names; the end, where the index is that of no token.
+    ///
+    /// No nodes are counted there.
+    pub fn new(text: &'a [u8], tokens: &'a [Token], index: usize, names: Names) -> Cursor<'a>
+        requires within { All (LiesWithin text.now) tokens.now }
+        requires few { length tokens.now ≤ most_tokens }
+        ensures { result ≡ start_of text.now tokens.now index names }
     {
         Cursor {
             text,
             tokens,
-            at: 0,
+            at: index,
+            class: class_in(text, tokens, index),
             nodes: 0,
             names,
         }
     }
 
     /// The class of the token at hand.
-    pub fn peek(&self) -> Peek
-        ensures { result ≡ peek_at self.now }
+    #[tactic(auto, using(crate::proofs::Places::known_class))]
+    pub fn class(&self) -> TokenClass
+        ensures { result ≡ class_at self.now }
     {
-        match token_at(self.tokens, self.at) {
-            None => Peek::End,
-            Some(token) => class_by(
-                token.kind,
-                &self.text[token.start as usize..token.end as usize],
-            ),
-        }
+        self.class
     }
 
-    /// The bytes of the token at hand, and none at the end.
+    /// The bytes of the token at hand, without its quotes, and none at the end.
     pub fn bytes(&self) -> &'a [u8]
         ensures { result.now ≡ bytes_at self.now }
     {
@@ -82,8 +84,18 @@ impl<'a> Cursor<'a> {
         }
     }
 
-    /// The index of the token at hand, or the number of tokens at the end.
-    pub fn at(&self) -> usize
+    /// The line of the token at hand, from 1, and 0 at the end.
+    pub fn line(&self) -> u32
+        ensures { result ≡ line_at self.now }
+    {
+        match token_at(self.tokens, self.at) {
+            None => 0,
+            Some(token) => token.line,
+        }
+    }
+
+    /// The index of the token at hand, from 0, or the number of tokens at the end.
+    pub fn index(&self) -> usize
         ensures { result ≡ self.now.at }
     {
         self.at
@@ -93,42 +105,52 @@ impl<'a> Cursor<'a> {
     #[tactic(auto, using(crate::proofs::Ends::left_from))]
     pub fn left(&self) -> usize
         ensures value { result ≡ left self.now }
-        ensures small { result < 2 ^ 63 }
+        ensures small { result ≤ most_tokens }
     {
         self.tokens.len().saturating_sub(self.at)
     }
 
-    /// The refusal of the token at hand.
+    /// The refusal of the token at hand, for this cause.
     pub fn refuse(&self, cause: Cause) -> Stop
-        ensures { result ≡ Stop.Refused (refusal self.now cause) }
+        ensures { result ≡ Stop.Refused (syntax_error self.now cause) }
     {
-        self.refuse_at(self.at, cause)
+        Stop::Refused(SyntaxError {
+            at: self.at,
+            by: self.at,
+            cause,
+        })
     }
 
-    /// A refusal that stands at the token of this index, and that the token at hand decides.
-    pub fn refuse_at(&self, place: usize, cause: Cause) -> Stop
-        ensures { result ≡ Stop.Refused (record { at = place; by = self.now.at; cause = cause }) }
+    /// The refusal of the token of this index, for this cause, which the token at hand decides.
+    ///
+    /// It stands at the token at hand where that comes before the index.
+    pub fn refuse_at(&self, index: usize, cause: Cause) -> Stop
+        ensures { result
+            ≡ Stop.Refused (record { at = min index self.now.at; by = self.now.at; cause = cause }) }
     {
-        Stop::Refused(Refusal {
-            at: place,
+        Stop::Refused(SyntaxError {
+            at: index.min(self.at),
             by: self.at,
             cause,
         })
     }
 
     /// Passes over the token at hand, which is there.
-    #[tactic(auto, using(crate::proofs::Ends::peek_at_end))]
+    #[tactic(auto, using(crate::proofs::Ends::class_at_end))]
     pub fn advance(&mut self)
-        requires { is_end (peek_at self.old) ≡ false }
+        requires { is_end (class_at self.old) ≡ false }
         ensures { self.new ≡ next self.old }
     {
         if self.at < self.tokens.len() {
             self.at += 1;
+            self.class = class_in(self.text, self.tokens, self.at);
         }
     }
 
     /// Passes over the token at hand, whatever it is.
-    #[tactic(auto, using(crate::proofs::Ends::peek_at_end, crate::proofs::Ends::peek_in_list))]
+    ///
+    /// The end is refused as unexpected.
+    #[tactic(auto, using(crate::proofs::Ends::class_at_end, crate::proofs::Ends::class_in_list))]
     pub fn pass(&mut self) -> Result<(), Stop>
         ensures reads { Reads (run _ pass self.old) result self.new }
         ensures sure { result ≢ Err Stop.Memory }
@@ -141,15 +163,15 @@ impl<'a> Cursor<'a> {
     }
 
     /// Whether the token at hand is of this class.
-    pub fn sees(&self, wanted: Peek) -> bool
-        ensures { result ≡ same_peek wanted (peek_at self.now) }
+    pub fn sees(&self, wanted: TokenClass) -> bool
+        ensures { result ≡ same_class wanted (class_at self.now) }
     {
-        same_peek(wanted, self.peek())
+        same_class(wanted, self.class())
     }
 
-    /// Passes over a token of this class.
+    /// Passes over a token of this class; any other is refused as unexpected.
     #[tactic(auto, unfolding(crate::specs::Productions::expect))]
-    pub fn expect(&mut self, wanted: Peek) -> Result<(), Stop>
+    pub fn expect(&mut self, wanted: TokenClass) -> Result<(), Stop>
         ensures reads { Reads (run _ (expect wanted) self.old) result self.new }
         ensures sure { result ≢ Err Stop.Memory }
     {
@@ -160,11 +182,24 @@ impl<'a> Cursor<'a> {
         }
     }
 
+    /// Sees that a token of this class is at hand; any other is refused as unexpected.
+    #[tactic(auto, unfolding(crate::specs::Productions::must_see))]
+    pub fn must_see(&self, wanted: TokenClass) -> Result<(), Stop>
+        ensures reads { Reads (run _ (must_see wanted) self.now) result self.now }
+        ensures sure { result ≢ Err Stop.Memory }
+    {
+        if self.sees(wanted) {
+            Ok(())
+        } else {
+            Err(self.refuse(Cause::Unexpected))
+        }
+    }
+
     /// Passes over a token of this class, if it is at hand, and tells whether it was.
     #[tactic(auto, using(crate::proofs::Steps::eaten_token, crate::proofs::Steps::nothing_eaten, crate::proofs::Steps::seen_is_some))]
-    pub fn eat(&mut self, wanted: Peek) -> bool
+    pub fn eat(&mut self, wanted: TokenClass) -> bool
         requires { is_end wanted ≡ false }
-        ensures found { result ≡ same_peek wanted (peek_at self.old) }
+        ensures found { result ≡ same_class wanted (class_at self.old) }
         ensures after { self.new ≡ (if result then next self.old else self.old) }
         ensures reads { run _ (eat wanted) self.old ≡ Ok (result, self.new) }
     {
@@ -184,6 +219,8 @@ impl<'a> Cursor<'a> {
     }
 
     /// Counts a node of the written term in hand, which the token at hand names.
+    ///
+    /// The 65th is refused as too deep.
     #[tactic(auto, unfolding(crate::specs::Productions::node))]
     pub fn node(&mut self) -> Result<(), Stop>
         ensures reads { Reads (run _ node self.old) result self.new }
@@ -196,7 +233,25 @@ impl<'a> Cursor<'a> {
         Ok(())
     }
 
-    /// The number of a name, which is a new one if the name has none so far.
+    /// Counts a node of the written term in hand, which the token of this index names.
+    ///
+    /// The 65th is refused as too deep, at that index, and the token at hand decides it.
+    #[tactic(auto, unfolding(crate::specs::Productions::node_at))]
+    pub fn node_at(&mut self, index: usize) -> Result<(), Stop>
+        ensures reads { Reads (run _ (node_at index) self.old) result self.new }
+        ensures sure { result ≢ Err Stop.Memory }
+    {
+        if self.nodes >= MOST_NODES {
+            return Err(self.refuse_at(index, Cause::TooDeep));
+        }
+        self.nodes += 1;
+        Ok(())
+    }
+
+    /// The number of a name, from 0, which is a new one if the name has none so far.
+    ///
+    /// A new name that would be the 2,049th is refused, at the token at hand, as one too many. A refusal and want of
+    /// memory leave the names as they were.
     pub fn number(&mut self, name: &[u8]) -> Result<u16, Stop>
         ensures { Reads (run _ (number name.now) self.old) result self.new }
     {
@@ -227,29 +282,40 @@ impl<'a> Cursor<'a> {
     }
 }
 
+/// The class of the token at an index, or that of the end.
+fn class_in(text: &[u8], tokens: &[Token], index: usize) -> TokenClass
+    requires { All (LiesWithin text.now) tokens.now }
+    ensures { result ≡ class_of (slice_get (map (seen_of text.now) tokens.now) index) }
+{
+    match token_at(tokens, index) {
+        None => TokenClass::End,
+        Some(token) => class_by(token.kind, &text[token.start as usize..token.end as usize]),
+    }
+}
+
 /// The class of a token of this kind with these bytes.
-fn class_by(kind: TokenKind, bytes: &[u8]) -> Peek
+fn class_by(kind: TokenKind, bytes: &[u8]) -> TokenClass
     ensures { result ≡ class_by kind bytes.now }
 {
     match kind {
         TokenKind::Word => word_class(bytes),
-        TokenKind::Quoted => Peek::Quoted,
-        TokenKind::Number => Peek::Number,
-        TokenKind::Text => Peek::Text,
-        TokenKind::Symbol(symbol) => Peek::Symbol(symbol),
-        TokenKind::Colons => Peek::Colons,
-        TokenKind::Percents => Peek::Percents,
+        TokenKind::Quoted => TokenClass::Quoted,
+        TokenKind::Number => TokenClass::Number,
+        TokenKind::Text => TokenClass::Text,
+        TokenKind::Symbol(symbol) => TokenClass::Symbol(symbol),
+        TokenKind::Colons => TokenClass::Colons,
+        TokenKind::Percents => TokenClass::Percents,
     }
 }
 
 /// The class of a Word.
-fn word_class(bytes: &[u8]) -> Peek
+fn word_class(bytes: &[u8]) -> TokenClass
     ensures { result ≡ word_class (begins_with_point bytes.now) (keyword_of bytes.now) }
 {
     if begins_with_point(bytes) {
-        Peek::Directive(keyword_of(bytes))
+        TokenClass::Directive(keyword_of(bytes))
     } else {
-        Peek::Word(keyword_of(bytes))
+        TokenClass::Word(keyword_of(bytes))
     }
 }
 
@@ -261,30 +327,30 @@ pub fn same_keyword(a: Keyword, b: Keyword) -> bool
 }
 
 /// Whether the two classes are the same.
-pub fn same_peek(a: Peek, b: Peek) -> bool
-    ensures { result ≡ same_peek a b }
+pub fn same_class(a: TokenClass, b: TokenClass) -> bool
+    ensures { result ≡ same_class a b }
 {
     match (a, b) {
-        (Peek::End, Peek::End)
-        | (Peek::Quoted, Peek::Quoted)
-        | (Peek::Number, Peek::Number)
-        | (Peek::Text, Peek::Text)
-        | (Peek::Colons, Peek::Colons)
-        | (Peek::Percents, Peek::Percents) => true,
-        (Peek::Word(a), Peek::Word(b)) => same_keyword(a, b),
-        (Peek::Directive(a), Peek::Directive(b)) => same_keyword(a, b),
-        (Peek::Symbol(a), Peek::Symbol(b)) => a == b,
+        (TokenClass::End, TokenClass::End)
+        | (TokenClass::Quoted, TokenClass::Quoted)
+        | (TokenClass::Number, TokenClass::Number)
+        | (TokenClass::Text, TokenClass::Text)
+        | (TokenClass::Colons, TokenClass::Colons)
+        | (TokenClass::Percents, TokenClass::Percents) => true,
+        (TokenClass::Word(a), TokenClass::Word(b)) => same_keyword(a, b),
+        (TokenClass::Directive(a), TokenClass::Directive(b)) => same_keyword(a, b),
+        (TokenClass::Symbol(a), TokenClass::Symbol(b)) => a == b,
         _ => false,
     }
 }
 
-/// The line of the token at an index, or that of the end.
+/// The line, from 1, of the token at an index, or that of the end.
 ///
 /// The line of the end is that of the last token, or 1 without tokens.
-pub fn line_of(tokens: &[Token], place: usize) -> u32
-    ensures { result ≡ line_of tokens.now place }
+pub fn line_of(tokens: &[Token], index: usize) -> u32
+    ensures { result ≡ line_of tokens.now index }
 {
-    match token_at(tokens, place) {
+    match token_at(tokens, index) {
         Some(token) => token.line,
         None => end_line(tokens),
     }

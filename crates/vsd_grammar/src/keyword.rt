@@ -1,6 +1,8 @@
-// The words of the grammar and of the forms that it refuses.
-ghost use Rattle.std.specs.Prelude.{◌≡◌, map};
-ghost use Rattle.vsd_grammar.specs.Words.{keyword_of, lookup, begins_with_point};
+//! The words of the grammar and of the forms that it refuses.
+ghost use Rattle.std.specs.Prelude.{◌≡◌, ◌≤◌, ◌<◌, length, map, slice_get};
+ghost use Rattle.vsd_grammar.specs.Words.{keyword_of, key_by, slot_of, begins_with_point};
+
+use sqlite_items::at;
 
 /// The key of a Word token: the word of the grammar that it spells, if it does.
 #[derive(Clone, Copy, Debug, PartialEq, Eq, Drop)]
@@ -210,7 +212,7 @@ pub enum Keyword {
 }
 
 /// Each word of the grammar with its key.
-const WORDS: [(&[u8], Keyword); 100] = [
+static WORDS: [(&[u8], Keyword); 100] = [
     (b".class", Keyword::DotClass),
     (b".assembly", Keyword::DotAssembly),
     (b".module", Keyword::DotModule),
@@ -313,24 +315,77 @@ const WORDS: [(&[u8], Keyword); 100] = [
     (b"repeat", Keyword::Repeat),
 ];
 
-/// The key of a word in a table, and Other where the table has it not.
-fn lookup(mut table: &[(&[u8], Keyword)], word: &[u8]) -> Keyword
-    ensures { result ≡ lookup (map (λ entry. (entry.0.now, entry.1)) table.entry.now) word.now }
+/// The place in the table of the word of each slot, and 0 where a slot has none. No two words have one slot.
+static SLOTS: [u8; 512] = [
+    0, 18, 0, 98, 0, 0, 0, 76, 0, 0, 0, 0, 0, 63, 0, 0, 38, 0, 0, 97, 5, 0, 0, 0, 61, 0, 0, 0, 0,
+    0, 0, 0, 0, 30, 0, 0, 0, 0, 0, 51, 0, 0, 0, 0, 0, 0, 0, 0, 0, 0, 0, 91, 0, 22, 0, 0, 0, 0, 0,
+    0, 39, 0, 0, 0, 53, 0, 0, 0, 0, 0, 0, 32, 0, 0, 0, 0, 0, 0, 0, 0, 0, 0, 69, 0, 0, 0, 0, 0, 0,
+    0, 0, 0, 0, 0, 0, 0, 0, 0, 0, 0, 60, 0, 59, 0, 65, 34, 66, 12, 0, 0, 0, 0, 96, 0, 0, 0, 0, 0,
+    0, 0, 0, 85, 0, 0, 0, 35, 10, 0, 0, 0, 16, 0, 0, 0, 0, 48, 0, 0, 0, 78, 52, 0, 0, 0, 0, 80, 0,
+    0, 0, 0, 58, 0, 0, 0, 0, 0, 0, 0, 0, 64, 0, 99, 25, 31, 28, 0, 0, 0, 0, 0, 0, 0, 0, 0, 0, 67,
+    0, 0, 56, 0, 0, 0, 0, 0, 0, 0, 0, 0, 0, 93, 0, 0, 0, 0, 0, 11, 0, 0, 0, 0, 0, 0, 0, 0, 0, 0, 0,
+    0, 0, 0, 29, 0, 0, 6, 0, 0, 0, 0, 0, 0, 54, 72, 0, 84, 9, 0, 0, 0, 0, 0, 0, 0, 0, 0, 0, 0, 20,
+    47, 0, 0, 0, 0, 0, 0, 7, 0, 0, 0, 0, 0, 0, 0, 0, 0, 0, 0, 0, 0, 0, 0, 21, 0, 33, 26, 0, 0, 0,
+    0, 0, 0, 0, 77, 0, 0, 0, 0, 0, 82, 0, 0, 0, 0, 0, 17, 0, 0, 75, 0, 0, 0, 0, 19, 0, 0, 0, 0, 0,
+    0, 23, 0, 0, 0, 0, 0, 0, 0, 0, 0, 0, 0, 0, 0, 0, 4, 74, 0, 2, 0, 0, 0, 0, 0, 0, 87, 0, 0, 0,
+    14, 0, 0, 0, 0, 0, 0, 0, 0, 0, 0, 0, 0, 0, 44, 0, 0, 0, 92, 0, 0, 0, 0, 13, 0, 0, 0, 0, 83, 0,
+    0, 0, 0, 55, 0, 0, 50, 70, 0, 0, 3, 0, 0, 0, 45, 0, 0, 0, 0, 0, 0, 57, 49, 0, 95, 0, 0, 0, 0,
+    0, 0, 24, 43, 0, 0, 0, 0, 0, 0, 0, 0, 0, 0, 0, 0, 0, 40, 0, 88, 0, 0, 0, 81, 0, 0, 0, 0, 0, 0,
+    0, 0, 0, 0, 0, 0, 0, 0, 79, 0, 0, 0, 0, 0, 42, 0, 0, 46, 0, 15, 0, 0, 8, 41, 0, 0, 0, 0, 0, 0,
+    0, 0, 73, 0, 0, 0, 0, 0, 0, 0, 0, 94, 0, 0, 0, 0, 0, 89, 0, 0, 90, 0, 71, 27, 62, 0, 0, 0, 0,
+    0, 0, 0, 0, 68, 0, 0, 0, 86, 0, 0, 0, 0, 0, 36, 1, 0, 0, 37, 0, 0, 0, 0, 0, 0, 0, 0, 0, 0, 0,
+    0, 0, 0, 0, 0, 0, 0,
+];
+
+/// The fewest bytes of a word of the grammar.
+const FEWEST_BYTES: usize = 2;
+
+/// The most bytes of a word of the grammar.
+const MOST_BYTES: usize = 15;
+
+/// The slot that a word would have, by its length and three of its bytes.
+#[tactic(auto, unfolding(crate::specs::Words::slot_of))]
+fn slot_of(word: &[u8]) -> usize
+    requires fewest { 2 ≤ length word.now }
+    requires most { length word.now ≤ 15 }
+    ensures value { result ≡ slot_of word.now }
+    ensures inside { result < 512 }
 {
-    while let [entry, rest @ ..] = table {
-        if entry.0 == word {
-            return entry.1;
-        }
-        table = rest;
-    }
-    Keyword::Other
+    let first = word[0] as usize;
+    let second = word[1] as usize;
+    let last = word[word.len() - 1] as usize;
+    (101 * word.len() + 424 * first + 191 * second + 190 * last) % 512
 }
 
-/// The key of a Word.
+/// The key of a Word, found by its slot.
+#[tactic(auto, using(crate::proofs::Keys::key_short, crate::proofs::Keys::key_long))]
 pub fn keyword_of(word: &[u8]) -> Keyword
     ensures { result ≡ keyword_of word.now }
 {
-    lookup(&WORDS, word)
+    if word.len() < FEWEST_BYTES {
+        return Keyword::Other;
+    }
+    if word.len() > MOST_BYTES {
+        return Keyword::Other;
+    }
+    key_in(&WORDS, SLOTS[slot_of(word)] as usize, word)
+}
+
+/// The key of the entry at this place of a table, if that is this word.
+fn key_in(table: &[(&[u8], Keyword)], place: usize, word: &[u8]) -> Keyword
+    ensures { result ≡ key_by
+        (slice_get (map (λ entry. (entry.0.now, entry.1)) table.entry.now) place) word.now }
+{
+    match at(table, place) {
+        Some(entry) => {
+            if entry.0 == word {
+                entry.1
+            } else {
+                Keyword::Other
+            }
+        }
+        None => Keyword::Other,
+    }
 }
 
 /// Whether the word begins with a point.

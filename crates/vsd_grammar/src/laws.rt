@@ -1,21 +1,29 @@
-// The laws that hold of every grammar. Each is a function that does nothing and ensures its law.
+//! The laws that hold of every grammar. Each is a function that does nothing and ensures its law.
 ghost use Rattle.vsd_grammar.specs.Grammar.{G, Decides};
-ghost use Rattle.vsd_grammar.specs.Productions.{name, numbered_name, plain_words};
+ghost use Rattle.vsd_grammar.specs.Productions.{name, numbered_name, plain_words, spelled_number};
 ghost use Rattle.vsd_grammar.specs.Words.{WordsHaveKeys};
-ghost use Rattle.vsd_grammar.specs.Laws.{IsSound, IsComplete, KeepsReading, KeepsRefusal, GoesForward, IsDead, IsUnambiguous};
-ghost use Rattle.vsd_grammar.specs.declared.peek.Peek.{Peek};
-ghost use Rattle.std.specs.Prelude.{Bool};
+ghost use Rattle.vsd_grammar.specs.Skipping.{SkipsPairs, skip};
+ghost use Rattle.vsd_grammar.specs.Laws.{IsSound, IsComplete, KeepsReading, KeepsRefusal, KeepsCauses, StandsInList, IsReader, GoesForward, IsDead, IsUnambiguous};
+ghost use Rattle.vsd_grammar.specs.declared.token_class.TokenClass.{TokenClass};
+ghost use Rattle.std.specs.Prelude.{ℕ, Bool};
 
 /// Each word of the grammar has its own key.
 pub fn words_have_keys()
     ensures { WordsHaveKeys }
 {}
 
-/// Names and plain words are read in one way, whatever follows them.
+/// Names, plain words, numbers and what is passed over are read in one way, whatever follows them.
 pub fn names_are_decided()
-    ensures names { (F : Peek → Bool) → Decides _ name F }
-    ensures numbers { (F : Peek → Bool) → Decides _ numbered_name F }
-    ensures words { (F : Peek → Bool) → Decides _ plain_words F }
+    ensures names { (F : TokenClass → Bool) → Decides _ name F }
+    ensures numbered { (F : TokenClass → Bool) → Decides _ numbered_name F }
+    ensures words { (F : TokenClass → Bool) → Decides _ plain_words F }
+    ensures numbers { (low high most : ℕ) (F : TokenClass → Bool) → Decides _ (spelled_number low high most) F }
+    ensures skipped { (stops : TokenClass → Bool) (F : TokenClass → Bool) → Decides _ (skip stops) F }
+{}
+
+/// What is passed over are tokens with their braces in pairs, up to the first token that ends it, and nothing else is.
+pub fn skips_pairs()
+    ensures { SkipsPairs }
 {}
 
 /// A grammar of which the laws speak: its production, and the tokens that may stand after it.
@@ -24,7 +32,7 @@ pub trait Production {
 
     ghost production: { G Value };
 
-    ghost follow: { Peek → Bool };
+    ghost follow: { TokenClass → Bool };
 }
 
 /// What is read is allowed.
@@ -35,6 +43,22 @@ pub fn sound<P: Production>()
 /// What is allowed is read, if an optional part and what may follow it begin differently.
 pub fn complete<P: Production>()
     ensures { Decides P.Value P.production P.follow → IsComplete P.Value P.production P.follow }
+{}
+
+/// A refusal stands at no token after the one that decided it, and that one is in the list, or its end.
+pub fn stands_in_list<P: Production>()
+    ensures { StandsInList P.Value P.production }
+{}
+
+/// If each cause in a production passes a test, so does the cause of each refusal.
+pub fn keeps_causes<P: Production>()
+    ensures { KeepsCauses P.Value P.production }
+{}
+
+/// What a function that reads a production answers is allowed, whatever is allowed is what it answers, and after its
+/// refusal nothing is allowed that goes on alike. The lemmas of it serve productions with parameters.
+pub fn reads_well<P: Production>()
+    ensures { Decides P.Value P.production P.follow → IsReader P.Value P.production P.follow }
 {}
 
 /// A reading goes forward within its list.

@@ -1,22 +1,24 @@
-// Names, which declarations and scripts read alike.
+//! Names, which declarations and scripts read alike.
 ghost use Rattle.std.specs.Prelude.{◌≡◌, ◌≢◌};
 ghost use Rattle.vsd_grammar.specs.Grammar.{run};
 ghost use Rattle.vsd_grammar.specs.Productions.{Reads, ReadsBy, is_name, spelled_name, name, numbered_name, plain_turn, plain_words};
 
+use crate::cause::{Cause, Counted};
 use crate::cursor::Cursor;
 use crate::loops::scan;
-use crate::peek::{Peek, Turn};
-use crate::refusal::{Cause, Counted, Stop};
+use crate::syntax_error::Stop;
+use crate::token_class::TokenClass;
+use crate::turn::Turn;
 
 /// The most bytes of a name.
 const MOST_BYTES: usize = 255;
 
 /// Whether a name may stand at a token of this class.
-pub fn is_name(peek: Peek) -> bool
-    ensures { result ≡ is_name peek }
+pub fn is_name(class: TokenClass) -> bool
+    ensures { result ≡ is_name class }
 {
-    match peek {
-        Peek::Word(_) | Peek::Quoted => true,
+    match class {
+        TokenClass::Word(_) | TokenClass::Quoted => true,
         _ => false,
     }
 }
@@ -28,7 +30,7 @@ pub fn spelled_name<'a>(cursor: &Cursor<'a>) -> Result<&'a [u8], Stop>
     ensures sure { result ≢ Err Stop.Memory }
 {
     let bytes = cursor.bytes();
-    if !is_name(cursor.peek()) {
+    if !is_name(cursor.class()) {
         return Err(cursor.refuse(Cause::Unexpected));
     }
     if bytes.len() == 0 {
@@ -71,11 +73,11 @@ pub fn plain_words(cursor: &mut Cursor<'_>) -> Result<(), Stop>
     scan(cursor, (), plain_turn)
 }
 
-fn plain_turn(peek: Peek, state: ()) -> Turn<()>
-    ensures { result ≡ plain_turn peek state }
+fn plain_turn(class: TokenClass, state: ()) -> Turn<()>
+    ensures { result ≡ plain_turn class state }
 {
-    match peek {
-        Peek::Word(_) => Turn::Pass(state),
+    match class {
+        TokenClass::Word(_) => Turn::Pass(state),
         _ => Turn::Stop,
     }
 }

@@ -1,3 +1,4 @@
+-- What contracts of this crate cite.
 pub mod Binding
 pub mod OwnRows
 pub mod Owned

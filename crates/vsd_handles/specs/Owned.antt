@@ -1,3 +1,4 @@
+-- A caller's own handle words.
 use Rattle.std.specs.Prelude.{◌≡◌, List}
 use Rattle.vsd_words.specs.declared.handle_word.HandleWord.{HandleWord}
 use Rattle.vsd_rows.specs.declared.hand.Hand.{Hand}

@@ -1,3 +1,4 @@
+//! Binding and unbinding handles.
 ghost use Rattle.std.specs.Prelude.{◌≡◌, ◌<◌, ◌↔◌, ℕ, true, false, None, IfOk, IsErr, OnErr, position};
 ghost use Rattle.vsd_rule.specs.Handles.{own_word};
 ghost use Rattle.vsd_rule.specs.Facts.{Knows};
@@ -16,7 +17,7 @@ use vsd_words::{Handle, HandleWord};
 
 /// None of the caller's 64 rows can be bound: each is live or worn out.
 #[derive(Clone, Copy, PartialEq, Eq, Debug, Error)]
-#[error("none of the caller's 64 rows of handles can be bound")]
+#[error("none of the caller's 64 handle rows can be bound")]
 pub struct HandlesFull;
 
 /// Binds the lowest of the caller's rows that is neither live nor worn out to type `t`, and raises

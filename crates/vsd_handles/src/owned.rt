@@ -1,3 +1,4 @@
+//! A caller's own handle words.
 ghost use Rattle.std.specs.Prelude.{◌≡◌, ◌↔◌, IsTrue};
 ghost use Rattle.vsd_table.specs.Seating.{view_of};
 ghost use Rattle.vsd_handles.specs.Owned.{AreWordsOf};
@@ -15,7 +16,7 @@ const BLANK: HandleWord = HandleWord {
     live: false,
 };
 
-/// The words of the caller's own 64 rows of handles, as the caller last stored them. Contracts see
+/// The words of the caller's own 64 handle rows, as the caller last stored them. Contracts see
 /// the list of them.
 #[derive(Drop)]
 pub struct Owned {

@@ -1,3 +1,4 @@
+//! Tests of what no clause says.
 ghost use Rattle.std.specs.Prelude.{[], All, IfSome};
 ghost use Rattle.std.proofs.Common.{rules};
 ghost use Rattle.vsd_table.specs.Seating.{view_of, IsNew, Belongs};

@@ -1,3 +1,4 @@
+//! The type that a handle names.
 ghost use Rattle.std.specs.Prelude.{◌≡◌, ◌<◌, ℕ, IfOk, Ok};
 ghost use Rattle.vsd_rule.specs.Layout.{handle_rows};
 ghost use Rattle.vsd_rule.specs.Handles.{host_word};

@@ -11,7 +11,7 @@ append_known-append : (o : Option (List ℕ)) (xs ys : List ℕ) → append_know
 append_known-append None xs ys = refl
 append_known-append (Some zs) xs ys = ap Some (sym (append_assoc zs xs ys))
 
-pub append_known-nil : (o : Option (List ℕ)) → append_known o [] ≡ o
+append_known-nil : (o : Option (List ℕ)) → append_known o [] ≡ o
 append_known-nil None = refl
 append_known-nil (Some xs) = ap Some (append-nil xs)
 
@@ -27,3 +27,8 @@ pub taken_more : (old mid new : Option (List ℕ)) (bytes : List ℕ) (at n : �
 taken_more old mid new bytes at n e f =
     f ∙ (ap (λ known. append_known known (take n (drop at bytes))) e
     ∙ (sym (append_known-append old (take at bytes) (take n (drop at bytes))) ∙ ap (append_known old) (sym (take-add at n bytes))))
+
+-- a write that failed took nothing, after those bytes
+pub taken_none : (old mid new : Option (List ℕ)) (bytes : List ℕ)
+    → mid ≡ append_known old bytes → new ≡ append_known mid [] → new ≡ append_known old bytes
+taken_none old mid new bytes e f = f ∙ (append_known-nil mid ∙ e)

@@ -1,3 +1,3 @@
+-- Lemmas that several proofs of this crate share.
 pub mod Giving
 pub mod Known
-pub mod Listed

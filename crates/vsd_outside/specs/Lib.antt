@@ -1,3 +1,4 @@
+-- What contracts of this crate cite.
 pub mod Faults
 pub mod Pieces
 pub mod Memory

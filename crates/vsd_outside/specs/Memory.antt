@@ -1,5 +1,5 @@
 -- Sources and sinks in memory, as contracts see them.
-use Rattle.std.specs.Prelude.{ℕ, ◌-◌, List, [], ◌∷◌, length}
+use Rattle.std.specs.Prelude.{◌≡◌, ℕ, ◌+◌, ◌≤◌, List, [], length}
 
 -- a source in memory: the bytes left, the most that a call gives, the calls that fail, counted from 1,
 -- and how many calls and faults there were
@@ -19,7 +19,6 @@ pub record MemoryStore : Type 0 where
   pub calls : ℕ
   pub faults : ℕ
 
--- how much the sink surely takes: what fits, where no call is listed to fail
-abbrev pub sure_room : List ℕ → ℕ → List ℕ → ℕ
-sure_room [] capacity taken = capacity - length taken
-sure_room (call ∷ calls) capacity taken = 0
+-- no call is listed to fail, and this many more bytes fit
+abbrev pub HasRoom : MemoryStore → ℕ → Type 0
+HasRoom sink size = (sink.failing ≡ []) × (length sink.taken + size ≤ sink.capacity)

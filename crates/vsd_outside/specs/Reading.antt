@@ -10,7 +10,7 @@ pub record GivesUpTo (limit : ℕ) (old new : Option (List ℕ)) (bytes : List �
   pub within : length bytes ≤ limit
   pub whole : length bytes < limit → IsAtEnd new
 
--- a read failed only for this cause; want of memory is free
-abbrev pub HasReadCause : Type 0 → ReadError → Type 0
-HasReadCause cause Failed = cause
-HasReadCause cause Memory = Unit {0}
+-- a fault was counted at a failed read, and none at want of memory
+abbrev pub Counted : Type 0 → Type 0 → ReadError → Type 0
+Counted rose same Failed = rose
+Counted rose same Memory = same

@@ -1,9 +1,9 @@
 //! A sink into memory.
-ghost use Rattle.std.specs.Prelude.{◌≡◌, ◌+◌, ◌-◌, ◌<◌, ◌≤◌, List, Some, [], min, length, vec_len, vec_capacity, IfOk, IsOk, IsErr, OnErr, Contains, is_ok, if◌then◌else◌};
+ghost use Rattle.std.specs.Prelude.{◌≡◌, ℕ, ◌+◌, ◌-◌, ◌<◌, ◌≤◌, List, Some, [], min, length, vec_len, vec_capacity, IfOk, IsOk, IsErr, OnOk, OnErr, Contains, is_ok, if◌then◌else◌};
 ghost use Rattle.std.specs.Io.KnownBytes.{append_known};
 ghost use Rattle.vsd_outside.specs.Faults.{Rose, one_more};
 ghost use Rattle.vsd_outside.specs.Pieces.{moved};
-ghost use Rattle.vsd_outside.specs.Memory.{MemoryStore, sure_room};
+ghost use Rattle.vsd_outside.specs.Memory.{MemoryStore, HasRoom};
 
 use crate::sinks::Sink;
 use crate::sources::Failed;
@@ -36,15 +36,18 @@ impl Model for MemorySink {
 
 impl MemorySink {
     /// An empty sink for `capacity` bytes, which takes their memory at once, and fails at the calls in
-    /// `fail`, counted from 1. Its error is want of memory.
+    /// `fail`, counted from 1. With an empty list and room for what is written it never fails. The error
+    /// is want of memory.
     pub fn new(alloc: Global, capacity: usize, fail: Vec<u64>) -> Result<MemorySink, AllocError>
-        ensures { IfOk result (λ sink. sink ≡ record {
+        ensures empty { IfOk result (λ sink. sink ≡ record {
           taken = [];
           capacity = capacity;
           failing = fail.items;
           calls = 0;
           faults = 0;
         }) }
+        ensures room { fail.items ≡ []
+            → IfOk result (λ sink. ⟦<MemorySink as Sink>⟧.has_room sink capacity) }
     {
         Ok(MemorySink {
             bytes: Vec::with_capacity(alloc, capacity)?,
@@ -55,7 +58,7 @@ impl MemorySink {
         })
     }
 
-    /// The bytes taken.
+    /// The bytes taken so far, in order.
     pub fn bytes(&self) -> &[u8]
         ensures { result.now ≡ self.now.taken }
     {
@@ -76,7 +79,7 @@ impl Sink for MemorySink {
 
     ghost faults = { λ s. s.faults };
 
-    ghost room = { λ s. sure_room s.failing s.capacity s.taken };
+    ghost has_room = { HasRoom };
 
     /// Fails exactly at the listed calls, and where a piece that isn't empty finds no room. Else takes
     /// what fits.
@@ -84,13 +87,12 @@ impl Sink for MemorySink {
         ensures bound { IfOk result (λ n. n ≤ length piece.now) }
         ensures some { IfOk result (λ n. 0 < length piece.now → 0 < n) }
         ensures bytes { Some self.new.taken ≡ append_known (Some self.old.taken) (moved result piece.now) }
+        ensures fault { OnErr result (Rose self.old.faults self.new.faults) }
+        ensures no_fault { OnOk result (self.new.faults ≡ self.old.faults) }
         ensures never_falls { self.old.faults ≤ self.new.faults }
-        ensures cause { OnErr result (Rose self.old.faults self.new.faults) }
-        ensures sure { 0 < length piece.now
-            → length piece.now ≤ sure_room self.old.failing self.old.capacity self.old.taken
-            → self.new.faults ≡ self.old.faults }
-        ensures room_left { sure_room self.old.failing self.old.capacity self.old.taken
-            ≤ sure_room self.new.failing self.new.capacity self.new.taken + length (moved result piece.now) }
+        ensures sure { OnErr result ((size : ℕ) → HasRoom self.old size → size < length piece.now) }
+        ensures room_left { IfOk result (λ n.
+            (size : ℕ) → HasRoom self.old size → HasRoom self.new (size - n)) }
 
         ensures fails_as_listed { Contains self.old.failing (one_more self.old.calls) → IsErr result }
         ensures fails_where_full { 0 < length piece.now

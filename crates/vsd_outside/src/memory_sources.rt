@@ -1,5 +1,5 @@
 //! Sources over bytes in memory.
-ghost use Rattle.std.specs.Prelude.{◌≡◌, ◌↔◌, ℕ, ◌+◌, ◌<◌, ◌≤◌, List, Some, [], min, length, take, drop, vec_len, IfOk, IsOk, IsErr, OnErr, Contains, is_ok, if◌then◌else◌};
+ghost use Rattle.std.specs.Prelude.{◌≡◌, ◌≢◌, ◌↔◌, ℕ, ◌+◌, ◌<◌, ◌≤◌, List, Some, [], min, length, take, drop, vec_len, IfOk, IsOk, IsErr, OnOk, OnErr, Contains, is_ok, if◌then◌else◌};
 ghost use Rattle.std.specs.Io.KnownBytes.{prepend_known, IsAtEnd};
 ghost use Rattle.vsd_outside.specs.Faults.{Rose, one_more};
 ghost use Rattle.vsd_outside.specs.Pieces.{moved};
@@ -34,17 +34,18 @@ impl Model for MemorySource {
 }
 
 impl MemorySource {
-    /// A source of these bytes that gives at most `chunk` a call and fails at the calls in `fail`,
-    /// counted from 1.
+    /// A source of these bytes that gives at most `chunk` bytes a call, at least 1, and fails at the calls
+    /// in `fail`, counted from 1. With an empty list it never fails.
     pub fn new(bytes: Vec<u8>, chunk: usize, fail: Vec<u64>) -> MemorySource
         requires { 0 < chunk }
-        ensures { result ≡ record {
+        ensures whole { result ≡ record {
           left = bytes.items;
           chunk = chunk;
           failing = fail.items;
           calls = 0;
           faults = 0;
         } }
+        ensures sure { fail.items ≡ [] → ⟦<MemorySource as Source>⟧.never_fails result }
     {
         MemorySource {
             bytes,
@@ -62,14 +63,19 @@ impl Source for MemorySource {
 
     ghost faults = { λ s. s.faults };
 
+    ghost never_fails = { λ s. s.failing ≡ [] };
+
     /// Fails exactly at the listed calls, and else gives as much as the room, the chunk and the bytes
     /// left allow.
     fn read(&mut self, into: &mut [u8]) -> Result<usize, Failed>
         ensures bound { IfOk result (λ n. n ≤ length into.new) }
         ensures bytes { Some self.old.left ≡ prepend_known (moved result into.new) (Some self.new.left) }
         ensures end { IfOk result (λ n. n ≡ 0 → 0 < length into.new → IsAtEnd (Some self.new.left)) }
+        ensures fault { OnErr result (Rose self.old.faults self.new.faults) }
+        ensures no_fault { OnOk result (self.new.faults ≡ self.old.faults) }
         ensures never_falls { self.old.faults ≤ self.new.faults }
-        ensures cause { OnErr result (Rose self.old.faults self.new.faults) }
+        ensures sure { OnErr result (self.old.failing ≢ []) }
+        ensures stays_sure { self.old.failing ≡ [] → self.new.failing ≡ [] }
 
         ensures fails_as_listed { IsErr result ↔ Contains self.old.failing (one_more self.old.calls) }
         ensures gives_all_it_may { IfOk result (λ n.
@@ -90,7 +96,7 @@ impl Source for MemorySource {
     }
 }
 
-/// A source that never fails.
+/// A source over bytes in memory that never fails.
 #[derive(Drop)]
 pub struct SureSource {
     bytes: Vec<u8>,
@@ -108,7 +114,8 @@ impl Model for SureSource {
 impl SureSource {
     /// A source of these bytes.
     pub fn new(bytes: Vec<u8>) -> SureSource
-        ensures { result ≡ bytes.items }
+        ensures whole { result ≡ bytes.items }
+        ensures sure { ⟦<SureSource as Source>⟧.never_fails result }
     {
         SureSource { bytes, at: 0 }
     }
@@ -119,8 +126,17 @@ impl Source for SureSource {
 
     ghost faults = { λ _. 0 };
 
+    ghost never_fails = { λ _. Unit {0} };
+
     /// Gives as much as the room and the bytes left allow.
-    fn read(&mut self, into: &mut [u8]) -> Result<usize, Failed> {
+    fn read(&mut self, into: &mut [u8]) -> Result<usize, Failed>
+        ensures bound { IfOk result (λ n. n ≤ length into.new) }
+        ensures bytes { Some self.old ≡ prepend_known (moved result into.new) (Some self.new) }
+        ensures end { IfOk result (λ n. n ≡ 0 → 0 < length into.new → IsAtEnd (Some self.new)) }
+
+        ensures succeeds { IsOk result }
+        ensures gives_all_it_may { IfOk result (λ n. n ≡ min (length into.new) (length self.old)) }
+    {
         let n = copy_front(&self.bytes[self.at..], into);
         self.at += n;
         Ok(n)

@@ -1,8 +1,8 @@
 //! Reading a source to its end, or to a limit.
-ghost use Rattle.std.specs.Prelude.{◌≡◌, ◌+◌, ◌<◌, ◌≤◌, ◌++◌, take, length, vec_len, IfOk, IfErr};
+ghost use Rattle.std.specs.Prelude.{◌≡◌, ◌+◌, ◌<◌, ◌≤◌, ◌++◌, take, length, vec_len, IfOk, IfErr, OnOk};
 ghost use Rattle.std.specs.Io.KnownBytes.{prepend_known, IsAtEnd};
 ghost use Rattle.vsd_outside.specs.Faults.{Rose};
-ghost use Rattle.vsd_outside.specs.Reading.{GivesUpTo, HasReadCause};
+ghost use Rattle.vsd_outside.specs.Reading.{GivesUpTo, Counted};
 
 use crate::sources::{Failed, Source};
 use std::alloc::{AllocError, Global};
@@ -13,9 +13,9 @@ const PIECE: usize = 65_536;
 /// Why a source wasn't read as far as it was to be.
 #[derive(Clone, Copy, Debug, PartialEq, Eq)]
 pub enum ReadError {
-    /// A read failed. The bytes that came before it are lost.
+    /// A read failed.
     Failed,
-    /// Want of memory.
+    /// Want of memory. No read failed.
     Memory,
 }
 
@@ -39,7 +39,8 @@ impl From<Failed> for ReadError {
     }
 }
 
-/// Reads the source to its end, or to `limit` bytes: never more.
+/// Reads the source to its end, or to `limit` bytes: never more. After an error the source has given as
+/// many bytes as were read before it, and they are lost. `Failed` comes at the first read that failed.
 pub fn read_up_to<S: Source>(
     alloc: Global,
     source: &mut S,
@@ -47,8 +48,15 @@ pub fn read_up_to<S: Source>(
 ) -> Result<Vec<u8>, ReadError>
     ensures read { IfOk result (λ text.
         GivesUpTo limit (S.left source.old) (S.left source.new) text.items) }
+
+    // A fault is counted exactly where a read failed.
+    ensures counted { IfErr result (Counted (Rose (S.faults source.old) (S.faults source.new))
+        (S.faults source.new ≡ S.faults source.old)) }
+    ensures no_fault { OnOk result (S.faults source.new ≡ S.faults source.old) }
     ensures never_falls { S.faults source.old ≤ S.faults source.new }
-    ensures cause { IfErr result (HasReadCause (Rose (S.faults source.old) (S.faults source.new))) }
+
+    ensures sure { S.never_fails source.old → IfErr result (λ error. error ≡ ReadError.Memory) }
+    ensures stays_sure { S.never_fails source.old → S.never_fails source.new }
 {
     let mut piece = zeroes(alloc, PIECE)?;
     let mut text = Vec::new(alloc);
@@ -72,8 +80,12 @@ fn read_piece<S: Source>(
     ensures grows { IfOk result (λ n. vec_len text.new ≡ vec_len text.old + n) }
     ensures bytes { IfOk result (λ n. S.left source.old ≡ prepend_known (take n piece.new) (S.left source.new)) }
     ensures end { IfOk result (λ n. n ≡ 0 → 0 < length piece.new → IsAtEnd (S.left source.new)) }
+    ensures counted { IfErr result (Counted (Rose (S.faults source.old) (S.faults source.new))
+        (S.faults source.new ≡ S.faults source.old)) }
+    ensures no_fault { OnOk result (S.faults source.new ≡ S.faults source.old) }
     ensures never_falls { S.faults source.old ≤ S.faults source.new }
-    ensures cause { IfErr result (HasReadCause (Rose (S.faults source.old) (S.faults source.new))) }
+    ensures sure { S.never_fails source.old → IfErr result (λ error. error ≡ ReadError.Memory) }
+    ensures stays_sure { S.never_fails source.old → S.never_fails source.new }
 {
     let n = source.read(piece)?;
     text.extend_from_slice(&piece[..n])?;

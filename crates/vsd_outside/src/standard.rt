@@ -1,11 +1,15 @@
 //! Standard input and output: the trusted edge. What they give and take isn't told.
-ghost use Rattle.std.specs.Prelude.{ℕ, None};
+ghost use Rattle.std.specs.Prelude.{◌≡◌, ◌≢◌, ℕ, None, IfErr};
+ghost use Rattle.std.specs.Io.{ReadsAtMost, WritesAtMost};
+ghost use Rattle.std.specs.IoError.{error_kind};
+ghost use Rattle.std.specs.declared.io.ErrorKind.{ErrorKind};
 
 use crate::sinks::Sink;
 use crate::sources::{Failed, Source};
-use std::io::{Read, Stdin, Stdout, Write};
+use std::io::{Error, ErrorKind, Read, Result as IoResult, Stdin, Stdout, Write};
 
-/// Standard input. It tells no bytes, and counts each read that the system refused.
+/// Standard input. It tells no bytes. It counts each read that the system refused; one that a signal
+/// interrupts is tried again, and is no fault.
 #[derive(Drop)]
 pub struct StdSource {
     input: Stdin,
@@ -13,8 +17,10 @@ pub struct StdSource {
 }
 
 impl StdSource {
-    /// Standard input, as the runtime gives it.
-    pub fn new(input: Stdin) -> StdSource {
+    /// Standard input, as the runtime gives it, without a fault so far.
+    pub fn new(input: Stdin) -> StdSource
+        ensures { ⟦<StdSource as Source>⟧.faults result ≡ 0 }
+    {
         StdSource { input, faults: 0 }
     }
 }
@@ -24,8 +30,10 @@ impl Source for StdSource {
 
     ghost faults = { λ s. s.faults };
 
+    ghost never_fails = { λ _. ⊥ };
+
     fn read(&mut self, into: &mut [u8]) -> Result<usize, Failed> {
-        if let Ok(n) = self.input.read(into) {
+        if let Ok(n) = read_uninterrupted(&mut self.input, into) {
             return Ok(n);
         }
         self.faults = self.faults.saturating_add(1);
@@ -33,8 +41,8 @@ impl Source for StdSource {
     }
 }
 
-/// Standard output. It tells no bytes, and counts each write that the system refused or that took
-/// nothing of a piece that isn't empty.
+/// Standard output. It tells no bytes. It counts each write that the system refused or that took nothing
+/// of a piece that isn't empty; one that a signal interrupts is tried again, and is no fault.
 #[derive(Drop)]
 pub struct StdSink {
     output: Stdout,
@@ -42,8 +50,10 @@ pub struct StdSink {
 }
 
 impl StdSink {
-    /// Standard output, as the runtime gives it.
-    pub fn new(output: Stdout) -> StdSink {
+    /// Standard output, as the runtime gives it, without a fault so far.
+    pub fn new(output: Stdout) -> StdSink
+        ensures { ⟦<StdSink as Sink>⟧.faults result ≡ 0 }
+    {
         StdSink { output, faults: 0 }
     }
 }
@@ -53,10 +63,10 @@ impl Sink for StdSink {
 
     ghost faults = { λ s. s.faults };
 
-    ghost room = { λ _. 0 };
+    ghost has_room = { λ _ _. ⊥ };
 
     fn write(&mut self, piece: &[u8]) -> Result<usize, Failed> {
-        if let Ok(n) = self.output.write(piece) {
+        if let Ok(n) = write_uninterrupted(&mut self.output, piece) {
             if n > 0 || piece.is_empty() {
                 return Ok(n);
             }
@@ -64,4 +74,35 @@ impl Sink for StdSink {
         self.faults = self.faults.saturating_add(1);
         Err(Failed)
     }
+}
+
+/// How often a read or write that a signal interrupts is tried: in practice until it isn't interrupted.
+const TRIES: u64 = u64::MAX;
+
+/// One read, tried again where a signal interrupts it.
+pub(crate) fn read_uninterrupted<R: Read>(reader: &mut R, into: &mut [u8]) -> IoResult<usize>
+    ensures bound { ReadsAtMost result into.new }
+    ensures tried_again { IfErr result (λ error. error_kind error ≢ ErrorKind.Interrupted) }
+{
+    for _ in 0..TRIES {
+        match reader.read(into) {
+            Err(error) if error.kind() == ErrorKind::Interrupted => {}
+            result => return result,
+        }
+    }
+    Err(Error::from(ErrorKind::TimedOut))
+}
+
+/// One write, tried again where a signal interrupts it.
+pub(crate) fn write_uninterrupted<W: Write>(writer: &mut W, piece: &[u8]) -> IoResult<usize>
+    ensures bound { WritesAtMost result piece.now }
+    ensures tried_again { IfErr result (λ error. error_kind error ≢ ErrorKind.Interrupted) }
+{
+    for _ in 0..TRIES {
+        match writer.write(piece) {
+            Err(error) if error.kind() == ErrorKind::Interrupted => {}
+            result => return result,
+        }
+    }
+    Err(Error::from(ErrorKind::TimedOut))
 }

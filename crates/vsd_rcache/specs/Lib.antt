@@ -1,1 +1,2 @@
+-- What contracts of this crate cite.
 pub mod Finding

@@ -1,3 +1,4 @@
+-- Lemmas that several proofs of this crate share.
 pub mod Makes
 pub mod StepsMade
 pub mod Filling

@@ -1,3 +1,4 @@
+-- What contracts of this crate cite.
 pub mod Retired
 pub mod Makes
 pub mod Hands

@@ -1,3 +1,4 @@
+-- Rows in limbo, as a hand and as a view have them.
 use Rattle.std.specs.Prelude.{◌≡◌, ℕ, ◌<◌, List}
 use mathlib.Core.Option.{some}
 use lib.ListN.{get_elem?}

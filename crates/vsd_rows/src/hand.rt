@@ -1,3 +1,4 @@
+//! A caller's hand.
 ghost use Rattle.std.specs.Prelude.{◌≡◌, ◌≤◌, ◌<◌, ℕ, map};
 ghost use mathlib.Core.Option.{some};
 ghost use lib.ListN.{get_elem?};

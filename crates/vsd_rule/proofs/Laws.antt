@@ -23,11 +23,12 @@ use Rattle.vsd_rule.specs.Zones.{Zones}
 use Rattle.vsd_rule.specs.Layout.{cast_rows}
 use Rattle.vsd_rule.specs.Lists.{target_of, compatible, site_token}
 use Rattle.vsd_rule.specs.Handles.{IsBinding, binding_for}
-use Rattle.vsd_rule.specs.Rows.{RowState, free, kept, Agrees, AreEvidences, WasPublished, KeepsAsTold, keeping_of, Content, Protects, ProtectsAll}
+use Rattle.vsd_rule.specs.Rows.{RowState, free, kept, Agrees, AreEvidences, WasPublished, KeepsAsTold, keeping_of}
 use Rattle.vsd_rule.specs.Casts.{CastAgrees, AreCastEvidences, version_of}
 use Rattle.vsd_rule.specs.Rule.{Whole, handle_seat, row_seat, cast_view}
 use Rattle.vsd_rule.specs.Facts.{Knows}
 use Rattle.vsd_rule.proofs.Steps.{binding_of_known}
+use Rattle.vsd_rule.proofs.RowFrames.{protects_at}
 
 -- an evidence that a list has is one of the rule's
 pub evidence_there : (k : Key) (gen : ℕ → ℕ) (name : ℕ → ℕ → ℕ) (xs : List Evidence) → AreEvidences k gen name xs → (i : ℕ) (x : Evidence) → get_elem? xs i ≡ some x → Agrees k gen name x.handle x.token x.target
@@ -40,12 +41,7 @@ cast_evidence_there k gen name [] all i x is = absurd (some-ne-none x (sym is))
 cast_evidence_there k gen name (y ∷ ys) all zero x is = subst (λ (e : CastEvidence). CastAgrees k gen name e.source e.target e.yes) (some-injective y x is) all.0
 cast_evidence_there k gen name (y ∷ ys) all (suc i) x is = cast_evidence_there k gen name ys all.1 i x is
 
-protected_there : (k : Key) (state : ℕ → RowState) (content : ℕ → Content) (pinned : ℕ) (xs : List ProtectedRow) → ProtectsAll k state content pinned xs → (i : ℕ) (x : ProtectedRow) → get_elem? xs i ≡ some x → Protects k state content pinned x
-protected_there k state content pinned [] all i x is = absurd (some-ne-none x (sym is))
-protected_there k state content pinned (y ∷ ys) all zero x is = subst (Protects k state content pinned) (some-injective y x is) all.0
-protected_there k state content pinned (y ∷ ys) all (suc i) x is = protected_there k state content pinned ys all.1 i x is
-
--- the seat has the row
+-- the seat keeps the row
 abbrev pub IsKept : Keeping → Type 0
 IsKept Elsewhere = ⊥
 IsKept (Private words) = Unit {0}
@@ -84,7 +80,7 @@ module _ (k : Key) (z : Zones) (views : List View) (w : Whole k z views) where
     -- a protected row is claimed
     pub protected_claimed : (i : ℕ) (x : ProtectedRow) → 0 < v.rows.pinned → get_elem? v.rows.protected i ≡ some x → get_or z.rows (4 * x.row) 0 ≡ 1
     protected_claimed i x pinned sees =
-        let p = protected_there k w.rows.state w.rows.content v.rows.pinned v.rows.protected ((w.rows.each seat (row_seat v) (at_map row_seat views seat v at)).protects pinned) i x sees in
+        let p = protects_at k w.rows.state w.rows.content v.rows.pinned v.rows.protected ((w.rows.each seat (row_seat v) (at_map row_seat views seat v at)).protects pinned) i x sees in
         (w.rows.row x.row p.row).claimed (published_not_free (w.rows.state x.row) p.published)
 
     -- two seats never keep one row

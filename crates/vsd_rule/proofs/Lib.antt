@@ -1,3 +1,4 @@
+-- Lemmas that several proofs of this crate share.
 pub mod Windows
 pub mod Numbering
 pub mod Points

@@ -1,4 +1,4 @@
--- A seat that has made no step yet minds each part of the rule.
+-- What a seat that has made no step knows is true, by each part of the rule.
 use Rattle.std.proofs.Common.{◌≡◌, ◌≢◌, ℕ, zero, suc, ◌+◌, ◌<◌, ◌≤◌, List, [], ◌∷◌, length, get_or, ap, sym, refl, ◌∙◌, subst, arith, Option, Some}
 use mathlib.Core.Option.{some, some-ne-none, some-injective}
 use lib.ListN.{get_elem?}

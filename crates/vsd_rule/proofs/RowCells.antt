@@ -1,5 +1,5 @@
 -- Steps that name a row in a cell or a bucket, or take it out again.
-use Rattle.std.proofs.Common.{◌≡◌, ◌≢◌, ℕ, ◌+◌, ◌<◌, List, ◌∷◌, Some, length, get_or, set, ap, sym, refl, ◌∙◌, subst, arith, length-set, get_or-set_same, get_or-set_other}
+use Rattle.std.proofs.Common.{◌≡◌, ◌≢◌, ℕ, ◌+◌, ◌<◌, List, ◌∷◌, length, get_or, set, ap, sym, refl, ◌∙◌, subst, arith, length-set, get_or-set_same, get_or-set_other}
 use Rattle.std.proofs.lemmas.List.{set-set}
 use mathlib.Core.Logic.{dite}
 use mathlib.Core.Option.{some}
@@ -21,7 +21,7 @@ use Rattle.vsd_rule.proofs.Points.{put, put_here, put_else}
 use Rattle.vsd_rule.proofs.RowFrames.{CellPart, BucketPart, cells_of, buckets_of, limbo_state, rows_after}
 use Rattle.vsd_rule.proofs.RowMoves.{Moves, keeping_here, keeping_else, there_below, untouched_same, waits_still, state', content', rows_moved, keeper_moved, others_moved, mine_moved, cells_still, buckets_still}
 use Rattle.vsd_rule.proofs.RowPins.{sweeps_still, seen_before, rehold_keeps}
-use Rattle.vsd_rule.proofs.RowClaims.{state_private, fresh_moves}
+use Rattle.vsd_rule.proofs.RowClaims.{state_private, private_moves}
 
 module _ (k : Key) {gen : ℕ → ℕ} {name : ℕ → ℕ → ℕ} {epoch : ℕ} {pins cells words buckets : List ℕ} {seats : List RowSeat} (r : Rows k gen name epoch pins cells words buckets seats) (id : ℕ) where
   -- ---- one cell or bucket changes, which named at most this row and names at most it
@@ -110,8 +110,8 @@ module _ (k : Key) {gen : ℕ → ℕ} {name : ℕ → ℕ → ℕ} {epoch : ℕ
     -- ---- into a cell, or into an empty bucket, with what was stored since the claim
 
     module _ (f : KnownWords) (mine : keeping_of row d.rows.kept ≡ Private f) (h : Handle) (token target : ℕ) (full : f ≡ all_words h token target) (agreed : Agrees k gen name h token target) where
-      abbrev fresh : r.state row ≡ kept id (Private f)
-      fresh = state_private k r id d at row f small mine
+      abbrev private_still : r.state row ≡ kept id (Private f)
+      private_still = state_private k r id d at row f small mine
 
       stored : TrueWords (all_words h token target) (r.content row)
       stored = subst (λ (x : KnownWords). TrueWords x (r.content row)) full ((r.each id d at).stored row f small mine)
@@ -124,8 +124,8 @@ module _ (k : Key) {gen : ℕ → ℕ} {name : ℕ → ℕ → ℕ} {epoch : ℕ
       to_dispatch_keeps site below lawful lookup few of_site =
           let q : RowState = in_cell site in
           let c : Content = r.content row in
-          let is : r.state row ≡ kept id (Private f) = fresh in
-          let m : Moves k r id row q c = fresh_moves k r id d at row small f mine q c (λ seat keeping apart e. absurd (cc)) in
+          let is : r.state row ≡ kept id (Private f) = private_still in
+          let m : Moves k r id row q c = private_moves k r id d at row small f mine q c (λ seat keeping apart e. absurd (cc)) in
           let t = r.each id d at in
           rows_after k r id d (now Elsewhere) at (record {
             small = r.epoch_small;
@@ -144,8 +144,8 @@ module _ (k : Key) {gen : ℕ → ℕ} {name : ℕ → ℕ → ℕ} {epoch : ℕ
       put_keeps bucket below lawful empty =
           let q : RowState = in_bucket bucket in
           let c : Content = r.content row in
-          let is : r.state row ≡ kept id (Private f) = fresh in
-          let m : Moves k r id row q c = fresh_moves k r id d at row small f mine q c (λ seat keeping apart e. absurd (cc)) in
+          let is : r.state row ≡ kept id (Private f) = private_still in
+          let m : Moves k r id row q c = private_moves k r id d at row small f mine q c (λ seat keeping apart e. absurd (cc)) in
           let t = r.each id d at in
           rows_after k r id d (now Elsewhere) at (record {
             small = r.epoch_small;

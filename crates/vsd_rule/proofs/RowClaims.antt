@@ -1,5 +1,5 @@
 -- Steps on a row that no cell, bucket or queue names: its claim, the stores of its words, and its return.
-use Rattle.std.proofs.Common.{◌≡◌, ◌≢◌, ℕ, ◌+◌, ◌*◌, ◌<◌, ◌≤◌, ◌^◌, List, ◌∷◌, Some, None, length, get_or, set, ap, sym, refl, ◌∙◌, subst, arith, get_or-set_same, get_or-set_other}
+use Rattle.std.proofs.Common.{◌≡◌, ◌≢◌, ℕ, ◌+◌, ◌*◌, ◌<◌, ◌≤◌, ◌^◌, List, ◌∷◌, Some, length, get_or, set, ap, sym, refl, ◌∙◌, subst, arith, get_or-set_same, get_or-set_other}
 use mathlib.Core.Option.{some}
 use lib.ListN.{get_elem?}
 use Rattle.vsd_words.specs.declared.handle.Handle.{Handle}
@@ -10,6 +10,7 @@ use Rattle.vsd_rule.specs.declared.row_view.Keeping.{Keeping}
 use Rattle.vsd_rule.specs.declared.row_view.Keeping.TheVariants.{Elsewhere, Private, Retired}
 use Rattle.vsd_rule.specs.Handles.{WasBound}
 use Rattle.vsd_rule.specs.Rows.{RowSeat, Rows, Row, RowState, Content, free, in_cell, in_bucket, kept, KeepsAsTold, TrueWords, WasPublished, keeping_of}
+use Rattle.vsd_rule.specs.RowSteps.{nothing_known}
 use Rattle.vsd_rule.proofs.RowFrames.{SeesRow, protects_at, limbo_state, rows_after}
 use Rattle.vsd_rule.proofs.RowMoves.{Untouched, Moves, there_below, waits_still, rows_moved, keeper_moved, others_moved, mine_moved, moved_view, cells_still, buckets_still}
 use Rattle.vsd_rule.proofs.RowPins.{sweeps_still, seen_before}
@@ -22,10 +23,6 @@ untouched_by words row i x from to other apart = record {
   token = get_or-set_other words i (4 * other + 2) x 0 (λ e. apart (omega arith));
   target = get_or-set_other words i (4 * other + 3) x 0 (λ e. apart (omega arith));
 }
-
--- with no words known
-abbrev pub no_words : KnownWords
-no_words = record { handle = None; token = None; target = None }
 
 module _ (k : Key) {gen : ℕ → ℕ} {name : ℕ → ℕ → ℕ} {epoch : ℕ} {pins cells words buckets : List ℕ} {seats : List RowSeat} (r : Rows k gen name epoch pins cells words buckets seats) where
   -- a row whose claim word is 0 is free
@@ -44,7 +41,7 @@ module _ (k : Key) {gen : ℕ → ℕ} {name : ℕ → ℕ → ℕ} {epoch : ℕ
   -- a row that was not named since its claim is protected by nobody
   pub unseen : (row : ℕ) → (WasPublished (r.state row) → ⊥) → (seat : ℕ) (e : RowSeat) → get_elem? seats seat ≡ some e → 0 < e.rows.pinned → SeesRow e.rows.protected row → ⊥
   unseen row hidden seat e there pinned s =
-      hidden (subst WasPublished (ap r.state s.same) (protects_at k r.state r.content e.rows.pinned e.rows.protected ((r.each seat e there).protects pinned) s.index s.sight s.there).published)
+      hidden (subst WasPublished (ap r.state s.same) (protects_at k r.state r.content e.rows.pinned e.rows.protected ((r.each seat e there).protects pinned) s.index s.entry s.there).published)
 
   module _ (id : ℕ) (d : RowSeat) (at : get_elem? seats id ≡ some d) where
     -- the seat has the row as its view tells
@@ -97,7 +94,7 @@ module _ (k : Key) {gen : ℕ → ℕ} {name : ℕ → ℕ → ℕ} {epoch : ℕ
     -- ---- a claim, whose exchange found the row free
 
     module _ (row : ℕ) (small : row < k.sizes.rows) where
-      claim_moves : r.state row ≡ free → Moves k r id row (kept id (Private no_words)) (r.content row)
+      claim_moves : r.state row ≡ free → Moves k r id row (kept id (Private nothing_known)) (r.content row)
       claim_moves is = record {
         small = small;
         from = λ seat keeping apart e. absurd (cc);
@@ -106,15 +103,15 @@ module _ (k : Key) {gen : ℕ → ℕ} {name : ℕ → ℕ → ℕ} {epoch : ℕ
       }
 
       pub claim_keeps : length words ≡ 4 * k.sizes.rows → get_or words (4 * row) 0 ≡ 0
-          → Rows k gen name epoch pins cells (set words (4 * row) 1) buckets (set seats id (record { who = d.who; rows = record d.rows { kept = record { row = row; keeping = Private no_words } ∷ d.rows.kept } }))
-      claim_keeps long found = let is = free_of row small found in quiet_keeps row (kept id (Private no_words)) (r.content row) (Private no_words) (set words (4 * row) 1) (claim_moves is) (record {
+          → Rows k gen name epoch pins cells (set words (4 * row) 1) buckets (set seats id (record { who = d.who; rows = record d.rows { kept = record { row = row; keeping = Private nothing_known } ∷ d.rows.kept } }))
+      claim_keeps long found = let is = free_of row small found in quiet_keeps row (kept id (Private nothing_known)) (r.content row) (Private nothing_known) (set words (4 * row) 1) (claim_moves is) (record {
         cell_from = λ site e. absurd (cc);
         cell_to = λ site e. absurd (cc);
         bucket_from = λ bucket e. absurd (cc);
         bucket_to = λ bucket e. absurd (cc);
         waiting = λ seat since e. absurd (cc);
-      }) (untouched_by words row (4 * row) 1 (omega arith) (omega arith)) (reclaimed row (kept id (Private no_words)) 1 small long (λ e. absurd (cc)) (λ _. refl) (λ (x : ⊥). absurd x)) refl
-          (λ f e. subst (λ (y : KnownWords). TrueWords y (r.content row)) (let same : no_words ≡ f = cc in same) (record { handle = tt; token = tt; target = tt }))
+      }) (untouched_by words row (4 * row) 1 (omega arith) (omega arith)) (reclaimed row (kept id (Private nothing_known)) 1 small long (λ e. absurd (cc)) (λ _. refl) (λ (x : ⊥). absurd x)) refl
+          (λ f e. subst (λ (y : KnownWords). TrueWords y (r.content row)) (let same : nothing_known ≡ f = cc in same) (record { handle = tt; token = tt; target = tt }))
 
       -- ---- a row that was not named since its claim
 
@@ -125,16 +122,16 @@ module _ (k : Key) {gen : ℕ → ℕ} {name : ℕ → ℕ → ℕ} {epoch : ℕ
         hidden : WasPublished (r.state row) → ⊥
         hidden = subst (λ (p : RowState). WasPublished p → ⊥) (sym is) (λ (x : ⊥). x)
 
-        pub fresh_moves : (q : RowState) (c : Content) → ((seat : ℕ) (keeping : Keeping) → seat ≢ id → q ≢ kept seat keeping) → Moves k r id row q c
-        fresh_moves q c to = record {
+        pub private_moves : (q : RowState) (c : Content) → ((seat : ℕ) (keeping : Keeping) → seat ≢ id → q ≢ kept seat keeping) → Moves k r id row q c
+        private_moves q c to = record {
           small = small;
           from = λ seat keeping apart e. apart (let same : id ≡ seat = let w : r.state row ≡ kept id (Private f) = is in cc in sym same);
           to = to;
           owed = λ seat e there pinned s. absurd (unseen row hidden seat e there pinned s);
         }
 
-        fresh_quiet : (q : RowState) → ((site : ℕ) → q ≢ in_cell site) → ((bucket : ℕ) → q ≢ in_bucket bucket) → Quiet row q
-        fresh_quiet q cell_to bucket_to = let w : r.state row ≡ kept id (Private f) = is in record {
+        private_quiet : (q : RowState) → ((site : ℕ) → q ≢ in_cell site) → ((bucket : ℕ) → q ≢ in_bucket bucket) → Quiet row q
+        private_quiet q cell_to bucket_to = let w : r.state row ≡ kept id (Private f) = is in record {
           cell_from = λ site e. absurd (cc);
           cell_to = cell_to;
           bucket_from = λ bucket e. absurd (cc);
@@ -145,16 +142,16 @@ module _ (k : Key) {gen : ℕ → ℕ} {name : ℕ → ℕ → ℕ} {epoch : ℕ
         module _ (long : length words ≡ 4 * k.sizes.rows) where
           -- a store of free
           pub free_keeps : Rows k gen name epoch pins cells (set words (4 * row) 0) buckets (set seats id (record { who = d.who; rows = record d.rows { kept = record { row = row; keeping = Elsewhere } ∷ d.rows.kept } }))
-          free_keeps = quiet_keeps row free (r.content row) Elsewhere (set words (4 * row) 0) (fresh_moves free (r.content row) (λ seat keeping apart e. absurd (cc)))
-              (fresh_quiet free (λ site e. absurd (cc)) (λ bucket e. absurd (cc))) (untouched_by words row (4 * row) 0 (omega arith) (omega arith))
+          free_keeps = quiet_keeps row free (r.content row) Elsewhere (set words (4 * row) 0) (private_moves free (r.content row) (λ seat keeping apart e. absurd (cc)))
+              (private_quiet free (λ site e. absurd (cc)) (λ bucket e. absurd (cc))) (untouched_by words row (4 * row) 0 (omega arith) (omega arith))
               (reclaimed row free 0 small long (λ _. refl) (λ not. absurd (not refl)) (λ (x : ⊥). absurd x)) (λ keeping e. absurd (cc)) (λ g e. absurd (cc))
 
           -- a store of one of the three words
           filled_keeps : (f' : KnownWords) (c : Content) (words' : List ℕ) → ((other : ℕ) → other ≢ row → Untouched words words' other) → Row k gen name (λ _. kept id (Private f')) (λ _. c) words' row → TrueWords f' c
               → Rows k gen name epoch pins cells words' buckets (set seats id (record { who = d.who; rows = record d.rows { kept = record { row = row; keeping = Private f' } ∷ d.rows.kept } }))
           filled_keeps f' c words' untouched here fills = quiet_keeps row (kept id (Private f')) c (Private f') words'
-              (fresh_moves (kept id (Private f')) c (λ seat keeping apart e. apart (let same : id ≡ seat = cc in sym same)))
-              (fresh_quiet (kept id (Private f')) (λ site e. absurd (cc)) (λ bucket e. absurd (cc))) untouched here refl
+              (private_moves (kept id (Private f')) c (λ seat keeping apart e. apart (let same : id ≡ seat = cc in sym same)))
+              (private_quiet (kept id (Private f')) (λ site e. absurd (cc)) (λ bucket e. absurd (cc))) untouched here refl
               (λ g e. subst (λ (y : KnownWords). TrueWords y c) (let same : f' ≡ g = cc in same) fills)
 
           abbrev old : Row k gen name r.state r.content words row
@@ -168,14 +165,14 @@ module _ (k : Key) {gen : ℕ → ℕ} {name : ℕ → ℕ → ℕ} {epoch : ℕ
 
           pub handle_keeps : (h : Handle) (x : ℕ) → IsHandlePacking h x → WasBound k gen name h
               → Rows k gen name epoch pins cells (set words (4 * row + 1) x) buckets (set seats id (record { who = d.who; rows = record d.rows { kept = record { row = row; keeping = Private (record f { handle = Some h }) } ∷ d.rows.kept } }))
-          handle_keeps h x packing used = filled_keeps (record f { handle = Some h }) (record (r.content row) { handle = h }) (set words (4 * row + 1) x) (untouched_by words row (4 * row + 1) x (omega arith) (omega arith)) (record {
+          handle_keeps h x packing bound = filled_keeps (record f { handle = Some h }) (record (r.content row) { handle = h }) (set words (4 * row + 1) x) (untouched_by words row (4 * row + 1) x (omega arith) (omega arith)) (record {
             unclaimed = λ e. absurd (cc);
             claimed = λ not. claimed_still (4 * row + 1) x (λ e. omega arith);
             handle = subst (IsHandlePacking h) (sym (get_or-set_same words (4 * row + 1) x 0 (omega arith))) packing;
             token = get_or-set_other words (4 * row + 1) (4 * row + 2) x 0 (λ e. omega arith) ∙ old.token;
             target = get_or-set_other words (4 * row + 1) (4 * row + 3) x 0 (λ e. omega arith) ∙ old.target;
-            handle_row = used.row;
-            old = used.old;
+            handle_row = bound.row;
+            old = bound.old;
             token_fits = old.token_fits;
             target_fits = old.target_fits;
             agrees = λ (shown : ⊥). absurd shown;

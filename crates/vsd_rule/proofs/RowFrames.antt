@@ -21,9 +21,9 @@ use Rattle.vsd_rule.proofs.HandleSteps.{Apart}
 -- a list of protected has one of the row
 pub record SeesRow (protected : List ProtectedRow) (row : ℕ) : Type 0 where
   pub index : ℕ
-  pub sight : ProtectedRow
-  pub there : get_elem? protected index ≡ some sight
-  pub same : sight.row ≡ row
+  pub entry : ProtectedRow
+  pub there : get_elem? protected index ≡ some entry
+  pub same : entry.row ≡ row
 
 module _ (k : Key) where
   pub record CellPart (state : ℕ → RowState) (content : ℕ → Content) (cell_word : ℕ → CellWord) (cells : List ℕ) : Type 0 where
@@ -87,7 +87,7 @@ module _ (k : Key) where
               → get_elem? a.rows.limbo 0 ≡ some x → get_elem? d'.rows.protected i ≡ some y → 0 < d'.rows.pinned → y.row ≢ x.row
           swept_by_other seat number i a x y there who passed oldest is pinned same = ⊎_elim
               (λ (t : (0 < d.rows.pinned) × SeesRow d.rows.protected y.row). let z = t.1 in
-              r.swept seat id number z.index a d x z.sight there at (sym s.sweeps.who ∙ who) passed oldest z.there t.0 (z.same ∙ same))
+              r.swept seat id number z.index a d x z.entry there at (sym s.sweeps.who ∙ who) passed oldest z.there t.0 (z.same ∙ same))
               (λ (none : (other since : ℕ) → r.state y.row ≢ kept other (Retired since)). none seat x.epoch (ap r.state same ∙ limbo_state seat 0 a x there oldest))
               (s.sweeps.protected i y pinned is)
 

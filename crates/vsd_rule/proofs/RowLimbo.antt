@@ -233,7 +233,7 @@ module _ (k : Key) {gen : ℕ → ℕ} {name : ℕ → ℕ → ℕ} {epoch : ℕ
       where
         go : (w : Who) → e.who ≡ w → ⊥
         go (Root next) is = let p : e.rows.pinned ≡ 0 = (subst (λ (w : Who). Pins k pins w e.rows.pinned) is (r.each seat e there).pin).0 in omega arith
-        go (Caller number) is = r.swept id seat number s.index d e oldest s.sight at there is (let b = in_range seat number e there is in omega arith) first s.there pinned s.same
+        go (Caller number) is = r.swept id seat number s.index d e oldest s.entry at there is (let b = in_range seat number e there is in omega arith) first s.there pinned s.same
 
     free_moves : Moves k r id row free (r.content row)
     free_moves = let is : r.state row ≡ kept id (Retired oldest.epoch) = retired_is in record {

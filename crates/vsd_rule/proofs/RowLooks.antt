@@ -25,17 +25,17 @@ module _ (row : ℕ) (loaded : KnownWords → KnownWords) where
   seen_back (x ∷ xs) i y is = go (λ j e. seen_back xs j y e) (nat_eq x.row row) i is
     where
       first : (z : ProtectedRow) → z.row ≡ x.row → some z ≡ some y → SeesRow (x ∷ xs) y.row
-      first z same e = record { index = 0; sight = x; there = refl; same = sym same ∙ ap (λ (q : ProtectedRow). q.row) (some-injective z y e) }
+      first z same e = record { index = 0; entry = x; there = refl; same = sym same ∙ ap (λ (q : ProtectedRow). q.row) (some-injective z y e) }
 
       later : (j : ℕ) → get_elem? xs j ≡ some y → SeesRow (x ∷ xs) y.row
-      later j e = record { index = suc j; sight = y; there = e; same = refl }
+      later j e = record { index = suc j; entry = y; there = e; same = refl }
 
       go : ((j : ℕ) → get_elem? (seeing row loaded xs) j ≡ some y → SeesRow xs y.row) → (b : Bool) (j : ℕ)
           → get_elem? (cond b (record x { seen = loaded x.seen } ∷ xs) (x ∷ seeing row loaded xs)) j ≡ some y → SeesRow (x ∷ xs) y.row
       go others true zero e = first (record x { seen = loaded x.seen }) refl e
       go others true (suc j) e = later j e
       go others false zero e = first x refl e
-      go others false (suc j) e = let s = others j e in record { index = suc s.index; sight = s.sight; there = s.there; same = s.same }
+      go others false (suc j) e = let s = others j e in record { index = suc s.index; entry = s.entry; there = s.there; same = s.same }
 
   -- what holds of each, and of the row with what was loaded, holds of each after it
   pub seen_all : (P : ProtectedRow → Type 0) (xs : List ProtectedRow) → ((i : ℕ) (x : ProtectedRow) → get_elem? xs i ≡ some x → P x)

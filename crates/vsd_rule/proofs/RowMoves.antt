@@ -116,7 +116,7 @@ module _ (k : Key) {gen : ℕ → ℕ} {name : ℕ → ℕ → ℕ} where
           let p : Protects k r.state r.content e.rows.pinned x = protects_at k r.state r.content e.rows.pinned e.rows.protected ((r.each seat e there).protects pinned) i x is in
           dite (ℕ_discrete x.row row)
           (λ same.
-          let o = m.owed seat e there pinned (record { index = i; sight = x; there = is; same = same }) in
+          let o = m.owed seat e there pinned (record { index = i; entry = x; there = is; same = same }) in
           let p_here : state' x.row ≡ q = ap state' same ∙ put_here r.state row q in
           let c_here : content' x.row ≡ r.content x.row = ap content' same ∙ (put_here r.content row c ∙ (o.1 ∙ ap r.content (sym same))) in
           record {

@@ -29,7 +29,7 @@ module _ (k : Key) {gen : ℕ → ℕ} {name : ℕ → ℕ → ℕ} {epoch : ℕ
     mine = λ other number i e x y over is_who below oldest is pinned. let b = before number x below oldest in ⊎_elim
         (λ (t : (other ≡ id) × (d' ≡ e)). let back = sym t.1 in ⊎_elim
         (λ (u : (0 < d.rows.pinned) × SeesRow d.rows.protected y.row). let z = u.1 in λ same.
-        r.swept id id number z.index d d x z.sight at at (sym who ∙ subst (λ (q : RowSeat). q.who ≡ Caller number) back is_who) b.0 b.1 z.there u.0 (z.same ∙ same))
+        r.swept id id number z.index d d x z.entry at at (sym who ∙ subst (λ (q : RowSeat). q.who ≡ Caller number) back is_who) b.0 b.1 z.there u.0 (z.same ∙ same))
         (λ (none : (seat since : ℕ) → r.state y.row ≢ kept seat (Retired since)). λ same. none id x.epoch (ap r.state same ∙ limbo_state k r id 0 d x at b.1))
         (protected i y (subst (λ (q : RowSeat). 0 < q.rows.pinned) back pinned) (subst (λ (q : RowSeat). get_elem? q.rows.protected i ≡ some y) back is)))
         (λ (t : (other ≢ id) × (get_elem? seats other ≡ some e)). r.swept id other number i d e x y at t.1 is_who b.0 b.1 is pinned)
@@ -46,7 +46,7 @@ module _ (k : Key) {gen : ℕ → ℕ} {name : ℕ → ℕ → ℕ} {epoch : ℕ
   -- rows that were protected are protected as before
   pub seen_before : (i : ℕ) (y : ProtectedRow) → 0 < d.rows.pinned → get_elem? d.rows.protected i ≡ some y
       → ((0 < d.rows.pinned) × SeesRow d.rows.protected y.row) ⊎ ((seat since : ℕ) → r.state y.row ≢ kept seat (Retired since))
-  seen_before i y pinned is = inl (pinned, record { index = i; sight = y; there = is; same = refl })
+  seen_before i y pinned is = inl (pinned, record { index = i; entry = y; there = is; same = refl })
 
   -- ---- the own epoch word, at a pin and at an unpin
 

@@ -1,5 +1,5 @@
 -- What each step on a cell, a counter or a bucket keeps of the whole rule.
-use Rattle.std.proofs.Common.{◌≡◌, ◌≢◌, ℕ, zero, suc, ◌+◌, ◌<◌, ◌≤◌, Bool, false, true, cond, List, [], ◌∷◌, Option, Some, None, length, map, get_or, set, ap, sym, refl, ◌∙◌, subst, arith, eq-eqb, ne_eqb}
+use Rattle.std.proofs.Common.{◌≡◌, ◌≢◌, ℕ, zero, suc, ◌+◌, ◌<◌, ◌≤◌, Bool, cond, List, Option, Some, None, length, map, get_or, set, ap, sym, refl, ◌∙◌, subst, arith, eq-eqb, ne_eqb}
 use Rattle.std.specs.Prelude.{nat_eq}
 use Rattle.std.proofs.lemmas.List.{set-get_or}
 use mathlib.Core.Option.{some}
@@ -10,7 +10,6 @@ use Rattle.vsd_words.specs.declared.cell_word.CellWord.TheVariants.{Lookup, Reso
 use Rattle.vsd_words.specs.CellWord.{packed_cell, IsCellPacking}
 use Rattle.vsd_words.proofs.Packings.{packed_cell-one_to_one}
 use Rattle.vsd_rule.specs.declared.key.Key.{Key}
-use Rattle.vsd_rule.specs.declared.row_view.KnownWords.{KnownWords}
 use Rattle.vsd_rule.specs.declared.row_view.Keeping.TheVariants.{Elsewhere, Private, Unlinked}
 use Rattle.vsd_rule.specs.declared.row_view.RowView.{RowView}
 use Rattle.vsd_rule.specs.declared.step.Act.{Act}
@@ -85,7 +84,7 @@ module _ (k : Key) (words : List ℕ) (views : List View) (r : Rule k words view
           → Rule k (set words (cells_from k.sizes + site) x) (set views id (after_rows v (unlinked v.rows row (Dispatch row)) act (2 + row)))
       taken x w act is packing none = by_cell x (unlinked v.rows row (Dispatch row)) act (2 + row)
           (subst (λ (b : Bool). by.RowsAre k words views r id v at (record (by.row_zones z) { cells = set z.cells site x }) (cond b (keeps_row v.rows row Unlinked) v.rows)) (sym (eq-eqb (2 + row) (2 + row) refl))
-              (take_cell_keeps k rows id (by.d k words views r id v at) (by.at_row_seat k words views r id v at) row inside site x w below small (cell_is (Dispatch row) is) packing none))
+          (take_cell_keeps k rows id (by.d k words views r id v at) (by.at_row_seat k words views r id v at) row inside site x w below small (cell_is (Dispatch row) is) packing none))
 
       not_taken : (w : CellWord) (act : Act) → packed_cell w ≢ 2 + row → Rule k words (set views id (after_rows v (unlinked v.rows row w) act (packed_cell w)))
       not_taken w act other = nothing_keeps k words views r id v at (unlinked v.rows row w) act (packed_cell w) (ap (λ (b : Bool). cond b (keeps_row v.rows row Unlinked) v.rows) (ne_eqb (packed_cell w) (2 + row) other))

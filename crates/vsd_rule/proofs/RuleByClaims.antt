@@ -1,6 +1,6 @@
 -- What each step on a row of one's own, and each load of a row's words, keeps of the whole rule.
-use Rattle.std.proofs.Common.{◌≡◌, ◌≢◌, ℕ, zero, suc, ◌+◌, ◌*◌, ◌<◌, ◌≤◌, ◌^◌, Bool, true, false, cond, ◌++◌, List, [], ◌∷◌, Some, None, inl, inr, ⊎_elim, length, map, get_or, set, ap, sym, refl, ◌∙◌, subst, arith}
-use Rattle.std.specs.Prelude.{IfSome, nat_eq, nat_lt}
+use Rattle.std.proofs.Common.{◌≡◌, ◌≢◌, ℕ, ◌+◌, ◌*◌, ◌<◌, ◌≤◌, ◌^◌, Bool, cond, List, ⊎_elim, length, map, get_or, set, ap, sym, refl, ◌∙◌, subst, arith}
+use Rattle.std.specs.Prelude.{IfSome, nat_eq}
 use Rattle.std.proofs.lemmas.Bool.{cases_lt, lt-ltb, le-ltb}
 use Rattle.std.proofs.Common.{ne_eqb}
 use mathlib.Core.Option.{some}
@@ -10,7 +10,6 @@ use Rattle.vsd_words.specs.Handle.{IsHandlePacking}
 use Rattle.vsd_words.proofs.Packings.{handle_of_word, handle_packing-below, handle_packing-one_to_one}
 use Rattle.vsd_rule.specs.declared.key.Key.{Key}
 use Rattle.vsd_rule.specs.declared.row_view.KnownWords.{KnownWords}
-use Rattle.vsd_rule.specs.declared.row_view.ProtectedRow.{ProtectedRow}
 use Rattle.vsd_rule.specs.declared.row_view.Keeping.{Keeping}
 use Rattle.vsd_rule.specs.declared.row_view.Keeping.TheVariants.{Elsewhere, Private}
 use Rattle.vsd_rule.specs.declared.row_view.RowView.{RowView}
@@ -27,7 +26,7 @@ use Rattle.vsd_rule.specs.Rows.{Agrees, Rows, Row, RowState, free, in_cell, in_b
 use Rattle.vsd_rule.specs.Rule.{Rule, handle_seat, row_seat}
 use Rattle.vsd_rule.specs.Evidence.{HasEvidence, KnowsTarget, CallsAgree}
 use Rattle.vsd_rule.specs.RowFacts.{RowWordInRange, SeenAgain, FindsAgain}
-use Rattle.vsd_rule.specs.RowSteps.{offset_of, after_rows, keeps_row, claimed, after_claim, words_stored, stores_known, with_handle, with_token, with_target, after_set_handle, after_set_token, after_set_target, after_free, next_row, sees_target, unpacked_handle, row_word_seen, after_row_word}
+use Rattle.vsd_rule.specs.RowSteps.{offset_of, after_rows, keeps_row, claimed, after_claim, words_stored, stores_known, with_handle, with_token, with_target, after_set_handle, after_set_token, after_set_target, after_free, next_row, unpacked_handle, row_word_seen, after_row_word}
 use Rattle.atomic_table.proofs.Lists.{at_map}
 use Rattle.vsd_rule.proofs.Windows.{rows_length, row_at, row_written}
 use Rattle.vsd_rule.proofs.Steps.{binding_of_known}
@@ -50,14 +49,14 @@ module _ (k : Key) (words : List ℕ) (views : List View) (r : Rule k words view
   pub evidence_agrees : (h : Handle) (token target : ℕ) → HasEvidence v h token target → Agrees k r.whole.gen r.whole.name h token target
   evidence_agrees h token target = ⊎_elim
       (λ (e : KnowsTarget v h token target).
-          let mine = r.whole.handles.each id (handle_seat v) (at_map handle_seat views id v at) in
-          let is = binding_of_known k r.whole.gen r.whole.name v.handles.bindings mine.bindings e.knows.0 (binding_for h e.number) e.knows.1 in
-          let key = by.key_is k words views r id v at in
-          record {
-            bound = is.bound;
-            token_in = subst (λ (q : Key). token < q.sizes.tokens) key e.token_in;
-            answer = e.answer ∙ (λ c. target_of (key c) (is.number c) token);
-          })
+      let mine = r.whole.handles.each id (handle_seat v) (at_map handle_seat views id v at) in
+      let is = binding_of_known k r.whole.gen r.whole.name v.handles.bindings mine.bindings e.knows.0 (binding_for h e.number) e.knows.1 in
+      let key = by.key_is k words views r id v at in
+      record {
+        bound = is.bound;
+        token_in = subst (λ (q : Key). token < q.sizes.tokens) key e.token_in;
+        answer = e.answer ∙ (λ c. target_of (key c) (is.number c) token);
+      })
       (λ (e : (i : ℕ) × (get_elem? v.rows.evidences i ≡ some _)). evidence_there k r.whole.gen r.whole.name v.rows.evidences (by.mine k words views r id v at).evidences e.0 _ e.1)
 
   pub calls_agree : CallsAgree v
@@ -92,7 +91,7 @@ module _ (k : Key) (words : List ℕ) (views : List View) (r : Rule k words view
         let first : 4 * row + 0 ≡ 4 * row = omega arith in
         by_row 0 1 (omega arith) (claimed v.rows row) (Claim row) 0
         (subst (λ (i : ℕ). by.RowsAre k words views r id v at (record (by.row_zones z) { rows = set z.rows i 1 }) (claimed v.rows row)) (sym first)
-            (claim_keeps k rows id (by.d k words views r id v at) (by.at_row_seat k words views r id v at) row small long (ap (λ (i : ℕ). get_or z.rows i 0) (sym first) ∙ (word_at 0 (omega arith) ∙ found))))
+        (claim_keeps k rows id (by.d k words views r id v at) (by.at_row_seat k words views r id v at) row small long (ap (λ (i : ℕ). get_or z.rows i 0) (sym first) ∙ (word_at 0 (omega arith) ∙ found))))
 
     pub claim_lost : (found : ℕ) → found ≢ 0 → Rule k words (set views id (after_claim v row found))
     claim_lost found other = nothing_keeps (cond (nat_eq found 0) (claimed v.rows row) v.rows) (Claim row) found (ap (λ (b : Bool). cond b (claimed v.rows row) v.rows) (ne_eqb found 0 other))
@@ -106,24 +105,24 @@ module _ (k : Key) (words : List ℕ) (views : List View) (r : Rule k words view
       pub set_handle_keeps : (h : Handle) (x token target : ℕ) → IsHandlePacking h x → HasEvidence v h token target → Rule k (set words (row_word_at k.sizes row 1) x) (set views id (after_set_handle v row h))
       set_handle_keeps h x token target packing evidence = by_row 1 x (omega arith) (stores_known v.rows row (with_handle h)) (SetHandle row h) 0
           (subst (by.RowsAre k words views r id v at (record (by.row_zones z) { rows = set z.rows (4 * row + 1) x })) (private_now (with_handle h))
-              (handle_keeps k rows id (by.d k words views r id v at) (by.at_row_seat k words views r id v at) row small f mine long h x packing (evidence_agrees h token target evidence).bound))
+          (handle_keeps k rows id (by.d k words views r id v at) (by.at_row_seat k words views r id v at) row small f mine long h x packing (evidence_agrees h token target evidence).bound))
 
       pub set_token_keeps : (token : ℕ) → token < 2 ^ 16 → Rule k (set words (row_word_at k.sizes row 2) token) (set views id (after_set_token v row token))
       set_token_keeps token fits = by_row 2 token (omega arith) (stores_known v.rows row (with_token token)) (SetToken row token) 0
           (subst (by.RowsAre k words views r id v at (record (by.row_zones z) { rows = set z.rows (4 * row + 2) token })) (private_now (with_token token))
-              (token_keeps k rows id (by.d k words views r id v at) (by.at_row_seat k words views r id v at) row small f mine long token fits))
+          (token_keeps k rows id (by.d k words views r id v at) (by.at_row_seat k words views r id v at) row small f mine long token fits))
 
       pub set_target_keeps : (target : ℕ) → target < 2 ^ 32 → Rule k (set words (row_word_at k.sizes row 3) target) (set views id (after_set_target v row target))
       set_target_keeps target fits = by_row 3 target (omega arith) (stores_known v.rows row (with_target target)) (SetTarget row target) 0
           (subst (by.RowsAre k words views r id v at (record (by.row_zones z) { rows = set z.rows (4 * row + 3) target })) (private_now (with_target target))
-              (target_keeps k rows id (by.d k words views r id v at) (by.at_row_seat k words views r id v at) row small f mine long target fits))
+          (target_keeps k rows id (by.d k words views r id v at) (by.at_row_seat k words views r id v at) row small f mine long target fits))
 
       pub free_row_keeps : Rule k (set words (row_word_at k.sizes row 0) 0) (set views id (after_free v row))
       free_row_keeps =
           let first : 4 * row + 0 ≡ 4 * row = omega arith in
           by_row 0 0 (omega arith) (keeps_row v.rows row Elsewhere) (Free row) 0
           (subst (λ (i : ℕ). by.RowsAre k words views r id v at (record (by.row_zones z) { rows = set z.rows i 0 }) (keeps_row v.rows row Elsewhere)) (sym first)
-              (free_keeps k rows id (by.d k words views r id v at) (by.at_row_seat k words views r id v at) row small f mine long))
+          (free_keeps k rows id (by.d k words views r id v at) (by.at_row_seat k words views r id v at) row small f mine long))
 
     -- ---- loads of a row's words
 

@@ -1,19 +1,17 @@
 -- What each step of retiring and sweeping keeps of the whole rule.
-use Rattle.std.proofs.Common.{◌≡◌, ◌≢◌, ℕ, ◌+◌, ◌*◌, ◌<◌, ◌≤◌, ◌^◌, List, [], ◌∷◌, Option, Some, None, length, map, get_or, set, ap, sym, refl, ◌∙◌, subst, arith}
+use Rattle.std.proofs.Common.{◌≡◌, ℕ, ◌+◌, ◌*◌, ◌<◌, ◌≤◌, ◌^◌, List, ◌∷◌, Option, Some, None, length, map, get_or, set, ap, sym, refl, ◌∙◌, subst, arith}
 use Rattle.std.specs.Prelude.{IfSome}
 use mathlib.Core.Option.{some}
 use lib.ListN.{get_elem?}
-use Rattle.atomic_table.proofs.Lists.{at_map}
 use Rattle.vsd_rule.specs.declared.key.Key.{Key}
 use Rattle.vsd_rule.specs.declared.row_view.RetiredRow.{RetiredRow}
 use Rattle.vsd_rule.specs.declared.row_view.Keeping.TheVariants.{Unlinked}
 use Rattle.vsd_rule.specs.declared.step.Act.TheVariants.{EpochToRetire, Raise, EpochOf, FreeSwept}
 use Rattle.vsd_rule.specs.declared.view.View.{View}
-use Rattle.vsd_rule.specs.declared.view.Who.TheVariants.{Caller}
 use Rattle.vsd_rule.specs.Layout.{pin_at, row_word_at}
 use Rattle.vsd_rule.specs.Zones.{Zones, zones}
-use Rattle.vsd_rule.specs.Rows.{Rows, RowSeat, keeping_of}
-use Rattle.vsd_rule.specs.Rule.{Rule, row_seat, who_of}
+use Rattle.vsd_rule.specs.Rows.{Rows, keeping_of}
+use Rattle.vsd_rule.specs.Rule.{Rule, row_seat}
 use Rattle.vsd_rule.specs.RowSteps.{after_raise, retired, after_epoch_to_retire, swept, after_epoch_of, freed, after_free_swept}
 use Rattle.vsd_rule.proofs.Windows.{epoch_word, epoch_written, pin_word, rows_length, row_written}
 use Rattle.vsd_rule.proofs.RowPins.{epoch_keeps}
@@ -66,4 +64,4 @@ module _ (k : Key) (words : List ℕ) (views : List View) (r : Rule k words view
       by.by_write k words views r id v at (row_word_at k.sizes row 0) 0 (record (by.row_zones z) { rows = set z.rows (4 * row + 0) 0 }) (freed v.rows row) (FreeSwept row) 0
       (row_written k.sizes words (4 * row + 0) 0 (omega arith))
       (subst (λ (i : ℕ). by.RowsAre k words views r id v at (record (by.row_zones z) { rows = set z.rows i 0 }) (freed v.rows row)) (sym first)
-          (free_swept_keeps k rows id d there oldest others queue passed (rows_length k.sizes words r.sized) (λ seat number e other who. by.callers_below k words views r id v at seat number e other who)))
+      (free_swept_keeps k rows id d there oldest others queue passed (rows_length k.sizes words r.sized) (λ seat number e other who. by.callers_below k words views r id v at seat number e other who)))

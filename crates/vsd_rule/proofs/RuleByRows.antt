@@ -1,5 +1,5 @@
 -- What each step on the epoch, on rows, cells, counters and buckets keeps of the whole rule: it changes what its seat knows of rows alone.
-use Rattle.std.proofs.Common.{◌≡◌, ◌≢◌, ℕ, ◌+◌, ◌<◌, ◌≤◌, ◌^◌, List, [], ◌∷◌, Option, Some, map, set, ap, sym, refl, ◌∙◌, subst, ⊎_elim, arith, length-set}
+use Rattle.std.proofs.Common.{◌≡◌, ◌≢◌, ℕ, ◌+◌, ◌<◌, ◌≤◌, ◌^◌, List, [], Option, Some, map, set, ap, sym, refl, ◌∙◌, subst, ⊎_elim, arith, length-set}
 use Rattle.std.proofs.lemmas.List.{map-set}
 use Rattle.std.specs.Prelude.{IfSome}
 use mathlib.Core.Option.{some}
@@ -23,12 +23,8 @@ use Rattle.vsd_rule.specs.RowSteps.{after_rows, after_epoch, after_pin, after_un
 use Rattle.vsd_rule.proofs.Points.{unseen_set}
 use Rattle.vsd_rule.proofs.Windows.{pins_length, pin_written}
 use Rattle.vsd_rule.proofs.HandleSteps.{Apart}
-use Rattle.vsd_rule.proofs.Steps.{apart_of}
+use Rattle.vsd_rule.proofs.Steps.{apart_of, whos_of}
 use Rattle.vsd_rule.proofs.RowPins.{repinned_keeps, epoch_keeps}
-
-whos_of_rows : (views : List View) → map (λ (d : RowSeat). d.who) (map row_seat views) ≡ map who_of views
-whos_of_rows [] = refl
-whos_of_rows (v ∷ vs) = ap (λ (ws : List Who). v.who ∷ ws) (whos_of_rows vs)
 
 -- the words of the zones on rows, as they are after a step
 pub record RowZones : Type 0 where
@@ -108,12 +104,12 @@ module _ (k : Key) (words : List ℕ) (views : List View) (r : Rule k words view
   pub apart : (caller : ℕ) → v.who ≡ Caller caller → (seat : ℕ) (e : RowSeat) → seat ≢ id → get_elem? seats seat ≡ some e → Apart caller e.who
   apart caller who seat e other there =
       apart_of k.sizes (map who_of views) w.seats id caller (at_map who_of views id v at ∙ ap some who) seat e.who other
-      (sym (ap (λ (ws : List Who). get_elem? ws seat) (whos_of_rows views)) ∙ at_map (λ (d : RowSeat). d.who) seats seat e there)
+      (sym (ap (λ (ws : List Who). get_elem? ws seat) (whos_of row_seat (λ (d : RowSeat). d.who) (λ v. refl) views)) ∙ at_map (λ (d : RowSeat). d.who) seats seat e there)
 
   -- each caller's number is in range
   pub callers_below : (seat number : ℕ) (e : RowSeat) → get_elem? seats seat ≡ some e → e.who ≡ Caller number → number < k.sizes.callers
   callers_below seat number e there who =
-      w.seats.in_range seat number (sym (ap (λ (ws : List Who). get_elem? ws seat) (whos_of_rows views)) ∙ (at_map (λ (d : RowSeat). d.who) seats seat e there ∙ ap some who))
+      w.seats.in_range seat number (sym (ap (λ (ws : List Who). get_elem? ws seat) (whos_of row_seat (λ (d : RowSeat). d.who) (λ v. refl) views)) ∙ (at_map (λ (d : RowSeat). d.who) seats seat e there ∙ ap some who))
 
   pub caller_below : (caller : ℕ) → v.who ≡ Caller caller → caller < k.sizes.callers
   caller_below caller who = w.seats.in_range id caller (at_map who_of views id v at ∙ ap some who)

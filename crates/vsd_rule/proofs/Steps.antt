@@ -44,9 +44,10 @@ one_binding k gen name n all h number other knows knows_other =
     let b = binding_of_known k gen name n.bindings all knows_other.0 (binding_for h other) knows_other.1 in
     a.number ∙ sym b.number
 
-whos_again : (views : List View) → map (λ (d : HandleSeat). d.who) (map handle_seat views) ≡ map who_of views
-whos_again [] = refl
-whos_again (v ∷ vs) = ap (λ (ws : List Who). v.who ∷ ws) (whos_again vs)
+-- whose the seats are, by any part of what they know
+pub whos_of : {A : Type 0} (f : View → A) (who : A → Who) → ((v : View) → who (f v) ≡ v.who) → (views : List View) → map who (map f views) ≡ map who_of views
+whos_of f who same [] = refl
+whos_of f who same (v ∷ vs) = λ c. same v c ∷ whos_of f who same vs c
 
 -- no other seat knows the words of this caller
 pub apart_of : (s : Sizes) (whos : List Who) → Seats s whos → (id caller : ℕ) → get_elem? whos id ≡ some (Caller caller) → (seat : ℕ) (who : Who) → seat ≢ id → get_elem? whos seat ≡ some who → Apart caller who
@@ -174,7 +175,7 @@ module _ (k : Key) where
           store_keeps_handles k r.whole.gen r.whole.name gen' name' grows p.caller p.index p.small w still shown z.handles seats x id (handle_seat v) bindings caller_small (handles_length k.sizes words r.sized) packing mortal
           (at_seen handle_seat views id v at) p.who
           (λ seat e other there. apart_of k.sizes (map who_of views) r.whole.seats id p.caller (at_seen who_of views id v at ∙ ap some p.who) seat e.who other
-          (sym (ap (λ (ws : List Who). get_elem? ws seat) (whos_again views)) ∙ at_map (λ (d : HandleSeat). d.who) seats seat e there))
+          (sym (ap (λ (ws : List Who). get_elem? ws seat) (whos_of handle_seat (λ (d : HandleSeat). d.who) (λ v. refl) views)) ∙ at_map (λ (d : HandleSeat). d.who) seats seat e there))
           known n in
           let moved : Handles k gen' name' (set z.handles row x) (set seats id (record { who = v.who; handles = record { bindings = bindings; owned = set v.handles.owned (own_index v row) w } })) =
           subst (λ (q : ℕ × ℕ). Handles k gen' name' (set z.handles q.0 x) (set seats id (record { who = v.who; handles = record { bindings = bindings; owned = set v.handles.owned q.1 w } }))) (λ c. (p.row_is c, p.index_is c)) stored in

@@ -35,7 +35,7 @@ module _ (s : Sizes) where
   abbrev pub handle_rows : ℕ
   handle_rows = s.hosts + 64 * s.callers
 
-  -- the first of a caller's 64 rows of handles
+  -- the first of a caller's 64 handle rows
   abbrev pub first_row : ℕ → ℕ
   first_row caller = s.hosts + 64 * caller
 

@@ -1,3 +1,4 @@
+-- What contracts of this crate cite.
 pub mod World
 pub mod Sizes
 pub mod Layout

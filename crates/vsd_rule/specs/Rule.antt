@@ -28,7 +28,7 @@ cast_view v = v.casts
 
 pub record Whole (k : Key) (z : Zones) (views : List View) : Type 0 where
   pub lawful : LawfulKey k
-  -- the generation of each row of handles, and the type that it names at each generation
+  -- the generation of each handle row, and the type that it names at each generation
   pub gen : ℕ → ℕ
   pub name : ℕ → ℕ → ℕ
   -- all seats know the same world

@@ -1,3 +1,4 @@
+//! What a seat has begun.
 ghost use Rattle.std.specs.Prelude.{◌≡◌, List, [], ◌∷◌};
 ghost use Rattle.std.specs.Borrow.{ftrue};
 ghost use Rattle.vsd_rule.specs.declared.step.Begins.{Begins};

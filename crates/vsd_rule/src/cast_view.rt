@@ -1,3 +1,5 @@
+//! What a seat knows of cast rows.
+
 use std::collections::LinkedList;
 use vsd_words::{CastWord, Handle};
 

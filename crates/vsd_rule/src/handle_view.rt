@@ -1,3 +1,4 @@
+//! What a seat knows of handles.
 use std::collections::LinkedList;
 use vsd_words::{Handle, HandleWord};
 

@@ -1,3 +1,4 @@
+//! What a table is told.
 use crate::sizes::Sizes;
 use crate::world::World;
 

@@ -1,3 +1,4 @@
+//! What answers where no cache does.
 ghost use Rattle.std.specs.Prelude.{◌≡◌, ℕ, ◌+◌, ◌*◌, ◌<◌, ◌^◌, ◌↔◌, List, slice_index, IsTrue};
 
 /// What answers a call or a cast that no cache holds: the world of closed types, each with a number,

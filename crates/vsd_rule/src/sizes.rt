@@ -1,3 +1,4 @@
+//! The sizes of a table.
 ghost use Rattle.std.specs.Prelude.{IsTrue, ◌↔◌};
 ghost use Rattle.vsd_words.specs.Hash.{IsBucketCount};
 ghost use Rattle.vsd_rule.specs.Sizes.{LawfulSizes, LawfulCounts, LawfulRows};
@@ -5,7 +6,7 @@ ghost use Rattle.vsd_rule.specs.Sizes.{LawfulSizes, LawfulCounts, LawfulRows};
 /// How large a table is.
 #[derive(Clone, Copy, PartialEq, Eq, Debug)]
 pub struct Sizes {
-    /// Callers, 1 to 16. Each has 64 rows of handles.
+    /// Callers, 1 to 16. Each has 64 handle rows.
     pub callers: u16,
     /// Call sites, 0 to 256, each with a cell.
     pub sites: u16,

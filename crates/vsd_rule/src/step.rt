@@ -1,3 +1,4 @@
+//! What a step is.
 use crate::row_view::RetiredRow;
 use std::collections::LinkedList;
 use vsd_words::{CastWord, Handle};

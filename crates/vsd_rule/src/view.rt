@@ -1,3 +1,4 @@
+//! What a seat knows.
 use crate::cast_view::CastView;
 use crate::handle_view::HandleView;
 use crate::key::Key;

@@ -1,3 +1,4 @@
+//! The world above a table.
 ghost use Rattle.std.specs.Prelude.{◌≡◌, ℕ, List};
 ghost use Rattle.std.specs.Borrow.{ftrue};
 ghost use Rattle.vsd_rule.specs.World.{WorldLists};

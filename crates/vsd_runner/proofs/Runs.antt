@@ -1,10 +1,10 @@
 -- What an outcome says of a run.
-use Rattle.std.proofs.Common.{◌≡◌, ℕ, ◌⊎◌, inl, inr, List, length, Option, Some, refl, sym, ap, subst, ◌∙◌, arith}
+use Rattle.std.proofs.Common.{◌≡◌, ◌≢◌, ℕ, ◌⊎◌, inl, inr, List, length, Option, Some, refl, sym, ap, subst, ◌∙◌, arith}
 use Rattle.std.specs.Io.KnownBytes.{append_known}
 use Rattle.vsd_outside.specs.Reading.{GivesUpTo}
 use Rattle.vsd_runner.specs.Command.{IsCommand}
 use Rattle.vsd_runner.specs.Answers.{IsAnswer}
-use Rattle.vsd_runner.specs.Outcomes.{read_limit, text_read, Defines, EndsAs, Headline, Wanted, Outcome}
+use Rattle.vsd_runner.specs.Outcomes.{read_limit, text_read, Defines, EndsAs, ReadCounted, WriteCounted, Headline, Wanted, Outcome}
 use Rattle.vsd_runner.specs.declared.statuses.Status.{Status}
 use Rattle.vsd_runner.specs.declared.statuses.Status.TheVariants.{Done, Words, Refused, ReadFault, WriteFault, Memory}
 use Rattle.vsd_runner.proofs.Texts.{short_of_lexed, read_same}
@@ -36,95 +36,103 @@ module _ (words : List (List ℕ)) where
   defined_over text other WriteFault bytes same defined = (defined.0, absurd defined.1)
   defined_over text other Memory bytes same defined = (defined.0, absurd defined.1)
 
-module _ (words : List (List ℕ)) (left_old left_new taken_old taken_new : Option (List ℕ)) (unread : Type 0) (sure : ℕ → Type 0) where
+module _ (words : List (List ℕ)) (left_old left_new taken_old taken_new : Option (List ℕ)) (unread unwritten : Type 0) (lacks_room : ℕ → Type 0) where
   abbrev ToWrite : List ℕ → Status → List ℕ → Type 0
-  ToWrite text status bytes = Wanted words left_old left_new taken_old taken_new unread sure text status bytes
+  ToWrite text status bytes = Wanted words left_old left_new taken_old taken_new unread unwritten lacks_room text status bytes
+
+  abbrev EndedSo : Status → Type 0
+  EndedSo status = Outcome words left_old left_new taken_old taken_new unread unwritten lacks_room status
 
   -- what is to be written after a text was read and answered
   pub wanted_for : (text : List ℕ) (status : Status) (bytes : List ℕ) → IsCommand words → GivesUpTo read_limit left_old left_new text
       → IsAnswer text status bytes → ((other : Status) (others : List ℕ) → IsAnswer text other others → (other ≡ status) × (others ≡ bytes))
-      → sure (length bytes) → ToWrite text status bytes
-  wanted_for text status bytes command given answer only room = record {
+      → ToWrite text status bytes
+  wanted_for text status bytes command given answer only = record {
     given = λ _. given;
     skipped = λ bad. absurd (bad command);
     defined = defined_by_answer words text status bytes command answer;
     only = λ other others defined. only other others (answer_by_defined words text other others command defined);
-    has_room = room;
   }
 
-  -- what the words and the text that the source tells define is what was to be written
-  wanted_same : (text : List ℕ) (status : Status) (bytes : List ℕ) → ToWrite text status bytes
-      → (told : List ℕ) (other : Status) (others : List ℕ) → text_read left_old ≡ Some told → Defines words told other others
-      → (other ≡ status) × (others ≡ bytes)
-  wanted_same text status bytes wanted told other others is defined =
-      wanted.only other others
-      (defined_over words told text other others (λ command. read_same read_limit left_old left_new text told (wanted.given command) is) defined)
+  -- all that was to be written was taken
+  pub written : (status : Status) (text bytes : List ℕ) → ToWrite text status bytes → taken_new ≡ append_known taken_old bytes → EndedSo status
+  written Done text bytes wanted taken = (text, bytes, wanted, taken)
+  written (Refused refusal) text bytes wanted taken = (text, bytes, wanted, taken)
+  written Words text bytes wanted taken = (text, bytes, wanted, taken)
+  written ReadFault text bytes wanted taken = absurd wanted.defined.1
+  written WriteFault text bytes wanted taken = absurd wanted.defined.1
+  written Memory text bytes wanted taken = absurd wanted.defined.1
 
-  module _ (read_rose write_rose unwritten : Type 0) where
-    abbrev EndedSo : Status → Type 0
-    EndedSo status = Outcome words left_old left_new taken_old taken_new unread sure read_rose write_rose unwritten status
+  headline_of : EndedSo Done → Headline words left_old left_new taken_old taken_new
+  headline_of (text, bytes, wanted, taken) =
+      let accepted = wanted.defined.1 in
+      let given = wanted.given wanted.defined.0 in
+      let short = short_of_lexed text accepted.tokens accepted.lexed in
+      record {
+        command = wanted.defined.0;
+        text = text;
+        answers = bytes;
+        given = given.given;
+        at_end = given.whole (omega arith);
+        accepted = accepted;
+        only = λ others read. (wanted.only Done others (wanted.defined.0, read)).1;
+        taken = taken;
+      }
 
-    -- all that was to be written was taken
-    pub written : (status : Status) (text bytes : List ℕ) → ToWrite text status bytes → taken_new ≡ append_known taken_old bytes → EndedSo status
-    written Done text bytes wanted taken = (text, bytes, wanted, taken)
-    written (Refused refusal) text bytes wanted taken = (text, bytes, wanted, taken)
-    written Words text bytes wanted taken = (text, bytes, wanted, taken)
-    written ReadFault text bytes wanted taken = absurd wanted.defined.1
-    written WriteFault text bytes wanted taken = absurd wanted.defined.1
-    written Memory text bytes wanted taken = absurd wanted.defined.1
+  pub headline_at : (status : Status) → EndedSo status → status ≡ Done → Headline words left_old left_new taken_old taken_new
+  headline_at status ended is = headline_of (subst EndedSo is ended)
 
-    headline_of : EndedSo Done → Headline words left_old left_new taken_old taken_new
-    headline_of (text, bytes, wanted, taken) =
-        let accepted = wanted.defined.1 in
-        let given = wanted.given wanted.defined.0 in
-        let short = short_of_lexed text accepted.tokens accepted.lexed in
-        record {
-          command = wanted.defined.0;
-          text = text;
-          answers = bytes;
-          given = given.given;
-          at_end = given.whole (omega arith);
-          accepted = accepted;
-          only = λ others read. (wanted.only Done others (wanted.defined.0, read)).1;
-          taken = taken;
-        }
+  module _ (told : List ℕ) (other : Status) (others : List ℕ) (is : text_read left_old ≡ Some told) (defined : Defines words told other others) where
+    -- what the words and the text that the source tells define is what was to be written
+    wanted_same : (text : List ℕ) (status : Status) (bytes : List ℕ) → ToWrite text status bytes → (other ≡ status) × (others ≡ bytes)
+    wanted_same text status bytes wanted =
+        wanted.only other others
+        (defined_over words told text other others (λ command. read_same read_limit left_old left_new text told (wanted.given command) is) defined)
 
-    pub headline_at : (status : Status) → EndedSo status → status ≡ Done → Headline words left_old left_new taken_old taken_new
-    headline_at status ended is = headline_of (subst EndedSo is ended)
+    -- all that was to be written, where it was written, is what is defined
+    taken_as_defined : (status : Status) (text bytes : List ℕ) → ToWrite text status bytes → taken_new ≡ append_known taken_old bytes
+        → (status ≡ other) × (taken_new ≡ append_known taken_old others)
+    taken_as_defined status text bytes wanted taken =
+        let same = wanted_same text status bytes wanted in
+        (sym same.0, taken ∙ ap (append_known taken_old) (sym same.1))
 
-    module _ (told : List ℕ) (other : Status) (others : List ℕ) (is : text_read left_old ≡ Some told) (defined : Defines words told other others) where
-      pub ends_as_defined : (status : Status) → EndedSo status → EndsAs other status
-      ends_as_defined Done (text, bytes, wanted, taken) = sym (wanted_same text Done bytes wanted told other others is defined).0
-      ends_as_defined (Refused refusal) (text, bytes, wanted, taken) = sym (wanted_same text (Refused refusal) bytes wanted told other others is defined).0
-      ends_as_defined Words (text, bytes, wanted, taken) = sym (wanted_same text Words bytes wanted told other others is defined).0
-      ends_as_defined ReadFault ended = tt
-      ends_as_defined WriteFault ended = tt
-      ends_as_defined Memory ended = tt
+    pub ends_as_defined : (status : Status) → EndedSo status → EndsAs taken_old taken_new other others status
+    ends_as_defined Done (text, bytes, wanted, taken) = taken_as_defined Done text bytes wanted taken
+    ends_as_defined (Refused refusal) (text, bytes, wanted, taken) = taken_as_defined (Refused refusal) text bytes wanted taken
+    ends_as_defined Words (text, bytes, wanted, taken) = taken_as_defined Words text bytes wanted taken
+    ends_as_defined ReadFault ended = tt
+    ends_as_defined WriteFault ended = tt
+    ends_as_defined Memory ended = tt
 
-      -- all that was to be written, where it was written, is what is defined
-      taken_as_defined : (status : Status) (text bytes : List ℕ) → ToWrite text status bytes → taken_new ≡ append_known taken_old bytes
-          → (status ≡ other) × (taken_new ≡ append_known taken_old others)
-      taken_as_defined status text bytes wanted taken =
-          let same = wanted_same text status bytes wanted told other others is defined in
-          (sym same.0, taken ∙ ap (append_known taken_old) (sym same.1))
+    -- a sink that has room for what is defined took what was to be written
+    pub room_suffices : (lacks_room (length others) → ⊥) → (status : Status) → EndedSo status → status ≡ WriteFault → ⊥
+    room_suffices room status ended is =
+        let (text, wanted_status, bytes, wanted, taken, lacks) = subst EndedSo is ended in
+        room (subst (λ size. lacks_room size) (sym (ap length (wanted_same text wanted_status bytes wanted).1)) lacks)
 
-      pub completes : (¬ read_rose) → (¬ write_rose) → (status : Status) → EndedSo status
-          → ((status ≡ other) × (taken_new ≡ append_known taken_old others)) ⊎ (status ≡ Memory)
-      completes no_read no_write Done (text, bytes, wanted, taken) = inl (taken_as_defined Done text bytes wanted taken)
-      completes no_read no_write (Refused refusal) (text, bytes, wanted, taken) = inl (taken_as_defined (Refused refusal) text bytes wanted taken)
-      completes no_read no_write Words (text, bytes, wanted, taken) = inl (taken_as_defined Words text bytes wanted taken)
-      completes no_read no_write ReadFault ended = absurd (no_read ended.1)
-      completes no_read no_write WriteFault ended = absurd (no_write ended.5)
-      completes no_read no_write Memory ended = inr refl
+-- what is defined came, or want of memory, where no fault came
+pub unless_fault : (taken_old taken_new : Option (List ℕ)) (other : Status) (others : List ℕ) (status : Status) → EndsAs taken_old taken_new other others status
+    → status ≢ ReadFault → status ≢ WriteFault → ((status ≡ other) × (taken_new ≡ append_known taken_old others)) ⊎ (status ≡ Memory)
+unless_fault taken_old taken_new other others Done ended no_read no_write = inl ended
+unless_fault taken_old taken_new other others (Refused refusal) ended no_read no_write = inl ended
+unless_fault taken_old taken_new other others Words ended no_read no_write = inl ended
+unless_fault taken_old taken_new other others ReadFault ended no_read no_write = absurd (no_read refl)
+unless_fault taken_old taken_new other others WriteFault ended no_read no_write = absurd (no_write refl)
+unless_fault taken_old taken_new other others Memory ended no_read no_write = inr refl
 
-      room_as_defined : (status : Status) (text bytes : List ℕ) → ToWrite text status bytes → sure (length others)
-      room_as_defined status text bytes wanted =
-          subst (λ size. sure size) (sym (ap length (wanted_same text status bytes wanted told other others is defined).1)) wanted.has_room
+-- a count that rose is told
+pub read_told : (rose same : Type 0) → (¬ same) → (status : Status) → ReadCounted rose same status → status ≡ ReadFault
+read_told rose same risen ReadFault counted = refl
+read_told rose same risen WriteFault counted = absurd (risen counted)
+read_told rose same risen Done counted = absurd (risen counted)
+read_told rose same risen Words counted = absurd (risen counted)
+read_told rose same risen (Refused refusal) counted = absurd (risen counted)
+read_told rose same risen Memory counted = absurd (risen counted)
 
-      pub has_room_for : (unwritten → sure (length others)) → (status : Status) → EndedSo status → sure (length others)
-      has_room_for kept Done (text, bytes, wanted, taken) = room_as_defined Done text bytes wanted
-      has_room_for kept (Refused refusal) (text, bytes, wanted, taken) = room_as_defined (Refused refusal) text bytes wanted
-      has_room_for kept Words (text, bytes, wanted, taken) = room_as_defined Words text bytes wanted
-      has_room_for kept ReadFault ended = kept ended.2
-      has_room_for kept WriteFault ended = room_as_defined ended.1 ended.0 ended.2 ended.3
-      has_room_for kept Memory ended = kept ended.1
+pub write_told : (rose same : Type 0) → (¬ same) → (status : Status) → WriteCounted rose same status → status ≡ WriteFault
+write_told rose same risen WriteFault counted = refl
+write_told rose same risen ReadFault counted = absurd (risen counted)
+write_told rose same risen Done counted = absurd (risen counted)
+write_told rose same risen Words counted = absurd (risen counted)
+write_told rose same risen (Refused refusal) counted = absurd (risen counted)
+write_told rose same risen Memory counted = absurd (risen counted)

@@ -1,3 +1,4 @@
+-- What contracts of this crate cite.
 pub mod Command
 pub mod Refusals
 pub mod Answers

@@ -2,7 +2,7 @@
 use Rattle.std.specs.Prelude.{◌≡◌, ℕ, ◌+◌, List, length, take, Option, Some, option_map}
 use Rattle.std.specs.Io.KnownBytes.{prepend_known, append_known, IsAtEnd}
 use Rattle.vsd_text.specs.Tokens.{text_limit}
-use Rattle.vsd_outside.specs.Pieces.{TakesPrefix}
+use Rattle.vsd_outside.specs.Pieces.{TakesPart}
 use Rattle.vsd_outside.specs.Reading.{GivesUpTo}
 use Rattle.vsd_runner.specs.Command.{IsCommand, words_line}
 use Rattle.vsd_runner.specs.Refusals.{refusal_line}
@@ -24,12 +24,22 @@ abbrev pub Defines : List (List ℕ) → List ℕ → Status → List ℕ → Ty
 Defines words text Words bytes = (¬ IsCommand words) × (bytes ≡ words_line)
 Defines words text status bytes = IsCommand words × IsAnswer text status bytes
 
--- the run ended with this status, or with that of a fault or of want of memory in its place
-abbrev pub EndsAs : Status → Status → Type 0
-EndsAs status ReadFault = Unit {0}
-EndsAs status WriteFault = Unit {0}
-EndsAs status Memory = Unit {0}
-EndsAs status other = other ≡ status
+-- the run ended with this status, and the sink took these bytes; or the run ended with a fault or want of memory in their place
+abbrev pub EndsAs : Option (List ℕ) → Option (List ℕ) → Status → List ℕ → Status → Type 0
+EndsAs taken_old taken_new status bytes ReadFault = Unit {0}
+EndsAs taken_old taken_new status bytes WriteFault = Unit {0}
+EndsAs taken_old taken_new status bytes Memory = Unit {0}
+EndsAs taken_old taken_new status bytes other = (other ≡ status) × (taken_new ≡ append_known taken_old bytes)
+
+-- the source counted a fault at the status that tells it, and at every other status none
+abbrev pub ReadCounted : Type 0 → Type 0 → Status → Type 0
+ReadCounted rose same ReadFault = rose
+ReadCounted rose same other = same
+
+-- the sink counted a fault at the status that tells it, and at every other status none
+abbrev pub WriteCounted : Type 0 → Type 0 → Status → Type 0
+WriteCounted rose same WriteFault = rose
+WriteCounted rose same other = same
 
 module _ (words : List (List ℕ)) (left_old left_new taken_old taken_new : Option (List ℕ)) where
   -- the words are the command, the source gave a text up to its end, the text is accepted, and the sink
@@ -55,29 +65,28 @@ module _ (words : List (List ℕ)) (left_old left_new taken_old taken_new : Opti
     pub said : refusal_line refusal ≡ Some line
     pub taken : taken_new ≡ append_known taken_old line
 
-  -- the sink took a first part of what the words and the text that the source gave define
+  -- the sink took a prefix of what the words and the text that the source gave define, and not all
   pub record CutShort : Type 0 where
     pub text : List ℕ
     pub status : Status
     pub bytes : List ℕ
     pub given : IsCommand words → GivesUpTo read_limit left_old left_new text
     pub defined : Defines words text status bytes
-    pub taken : TakesPrefix taken_old taken_new bytes
+    pub taken : TakesPart taken_old taken_new bytes
 
-  -- What a run was to write, and whether the source was read and the sink surely had room, as facts.
-  module _ (unread : Type 0) (sure : ℕ → Type 0) where
+  -- What a run was to write. That the source wasn't read, that nothing was written, and that the sink wasn't sure of room for so
+  -- many bytes are facts that come from outside.
+  module _ (unread unwritten : Type 0) (lacks_room : ℕ → Type 0) where
     pub record Wanted (text : List ℕ) (status : Status) (bytes : List ℕ) : Type 0 where
       pub given : IsCommand words → GivesUpTo read_limit left_old left_new text
       pub skipped : ¬ IsCommand words → unread
       pub defined : Defines words text status bytes
       pub only : (other : Status) (others : List ℕ) → Defines words text other others → (other ≡ status) × (others ≡ bytes)
-      pub has_room : sure (length bytes)
 
-    -- How a run ended, with the rises of both counts and "nothing was written" as facts.
-    abbrev pub Outcome : Type 0 → Type 0 → Type 0 → Status → Type 0
-    Outcome read_rose write_rose unwritten ReadFault = IsCommand words × read_rose × unwritten
-    Outcome read_rose write_rose unwritten Memory = IsCommand words × unwritten
-    Outcome read_rose write_rose unwritten WriteFault =
-        (text : List ℕ) × (status : Status) × (bytes : List ℕ) × Wanted text status bytes × TakesPrefix taken_old taken_new bytes × write_rose
-    Outcome read_rose write_rose unwritten status =
-        (text : List ℕ) × (bytes : List ℕ) × Wanted text status bytes × (taken_new ≡ append_known taken_old bytes)
+    -- how a run ended
+    abbrev pub Outcome : Status → Type 0
+    Outcome ReadFault = IsCommand words × unwritten
+    Outcome Memory = IsCommand words × unwritten
+    Outcome WriteFault =
+        (text : List ℕ) × (status : Status) × (bytes : List ℕ) × Wanted text status bytes × TakesPart taken_old taken_new bytes × lacks_room (length bytes)
+    Outcome status = (text : List ℕ) × (bytes : List ℕ) × Wanted text status bytes × (taken_new ≡ append_known taken_old bytes)

@@ -4,10 +4,11 @@ ghost use Rattle.vsd_runner.specs.Refusals.{is_sound};
 
 use crate::statuses::Status;
 
-/// How a run ended. The status carries no want of memory as a refusal.
+/// What a run hands back: how it ended. A refusal in it is one of a text, with a line of its own, and never
+/// want of memory.
 #[derive(Debug, Drop)]
 pub struct Ended {
-    /// How the run ended.
+    /// How the run ended; `number` gives its exit status.
     pub status: Status,
     pub ghost sound: { IsTrue (is_sound status) },
 }

@@ -5,7 +5,8 @@ ghost use Rattle.vsd_runner.specs.Refusals.{number_of};
 use vsd_decls::DeclError;
 use vsd_text::LexError;
 
-/// Why a text is refused. A refusal that a run carries is never want of memory.
+/// Why a text is refused: the error of the reader that refused it, with the line at which it shows. A
+/// refusal that a run carries is never want of memory.
 #[derive(Debug, Drop)]
 pub enum Refusal {
     /// The text has no tokens.
@@ -23,15 +24,16 @@ pub enum Status {
     Words,
     /// The text is refused. One line was written that says why.
     Refused(Refusal),
-    /// A read failed. Nothing was written.
+    /// A read failed, and the source counted it. Nothing was written.
     ReadFault,
-    /// A write failed. A first part of what was to be written was taken.
+    /// A write failed, and the sink counted it. A prefix of what was to be written was taken, often nothing
+    /// and never all.
     WriteFault,
-    /// Want of memory. A first part of what was to be written was taken, often nothing.
+    /// Want of memory. Nothing was written.
     Memory,
 }
 
-/// The exit status of the program.
+/// The exit status of the program, from 0 to 6; no way to end has 1. `docs/language.md` lists them.
 pub fn number(status: &Status) -> u8
     ensures { result ≡ number_of status.now }
 {

@@ -1,6 +1,8 @@
+//! Texts from outside with what a run must say of them, and every way in which a read or a write fails.
 use super::*;
 use std::alloc::{AllocError, Global};
 use std::test::Fail;
+use vsd_text::{LexError, TEXT_LIMIT};
 
 const PLAIN: &[u8] = b"vsd 1
 .class interface public abstract I { .method public newslot abstract virtual instance void M() cil managed { } }
@@ -41,7 +43,7 @@ impl<'a> Trial<'a> {
         }
     }
 
-    /// Whether the run ends with this status and these bytes.
+    /// Whether the run ends with this exit status and these bytes.
     fn gives(&self, alloc: Global, status: u8, output: &[u8]) -> Result<bool, AllocError> {
         let mut words = Vec::new(alloc);
         for word in self.words {
@@ -56,22 +58,48 @@ impl<'a> Trial<'a> {
     }
 }
 
+/// Each refusal has its line, with the line of the text in decimal.
 #[test]
 fn texts(rt: HostRuntime) -> Result<(), Fail> {
     let alloc = rt.alloc();
-    assert!(rt; Trial::of(PLAIN).gives(alloc, 0, b"0 s A::M\n")?);
-    assert!(rt; Trial::of(NO_INTERFACE).gives(alloc, 3, NOT_BUILT)?);
-    assert!(rt; Trial::of(b"vsd 1\n\x01").gives(alloc, 3, b"refused 2 1 bad byte\n")?);
-    assert!(rt; Trial::of(b"").gives(alloc, 3, NOT_BUILT)?);
-    let longest = spaces(alloc, 4_194_304)?;
+    let texts: [(&[u8], u8, &[u8]); 7] = [
+        (PLAIN, 0, b"0 s A::M\n"),
+        (NO_INTERFACE, 3, NOT_BUILT),
+        (b"", 3, NOT_BUILT),
+        (b"vsd 1\n\x01", 3, b"refused 2 1 bad byte\n"),
+        (b"vsd 1 /* ", 3, b"refused 1 2 open comment\n"),
+        (b"\n\n'a", 3, b"refused 3 3 open quote\n"),
+        (b"\n\n\n\n\n\n\n\n\n\n\n\x7f", 3, b"refused 12 1 bad byte\n"),
+    ];
+    for (text, status, output) in texts {
+        assert!(rt; Trial::of(text).gives(alloc, status, output)?, "{output:?}");
+    }
+    let longest = spaces(alloc, TEXT_LIMIT)?;
     assert!(rt; Trial::of(&longest).gives(alloc, 3, NOT_BUILT)?);
-    let too_long = spaces(alloc, 5_000_000)?;
+    let too_long = spaces(alloc, TEXT_LIMIT + 1)?;
     assert!(rt; Trial::of(&too_long).gives(alloc, 3, b"refused 0 4 too long\n")?);
     Ok(())
 }
 
 fn spaces(alloc: Global, size: usize) -> Result<Vec<u8>, AllocError> {
     vec![in alloc; b' '; size]
+}
+
+/// The exit status of each way to end.
+#[test]
+fn statuses(rt: HostRuntime) {
+    let refused = Status::Refused(Refusal::Lex(LexError::TooLong));
+    let numbered = [
+        (Status::Done, 0),
+        (Status::Words, 2),
+        (refused, 3),
+        (Status::ReadFault, 4),
+        (Status::WriteFault, 5),
+        (Status::Memory, 6),
+    ];
+    for (status, wanted) in &numbered {
+        assert_eq!(rt; number(status), *wanted);
+    }
 }
 
 #[test]
@@ -136,12 +164,12 @@ fn failing_reads(rt: HostRuntime) -> Result<(), Fail> {
 /// Each write that fails, for want of room or as listed, at each line that is written.
 #[test]
 fn failing_writes(rt: HostRuntime) -> Result<(), Fail> {
-    let trials: [(&[&str], &[u8], &[u8]); 3] = [
-        (&["run"], PLAIN, b"0 s A::M\n"),
-        (&["run"], NO_INTERFACE, NOT_BUILT),
-        (&[], PLAIN, b"refused words\n"),
+    let trials: [(&[&str], &[u8], u8, &[u8]); 3] = [
+        (&["run"], PLAIN, 0, b"0 s A::M\n"),
+        (&["run"], NO_INTERFACE, 3, NOT_BUILT),
+        (&[], PLAIN, 2, b"refused words\n"),
     ];
-    for (words, text, line) in trials {
+    for (words, text, status, line) in trials {
         let listed = Trial {
             words,
             failing_write: 1,
@@ -156,6 +184,12 @@ fn failing_writes(rt: HostRuntime) -> Result<(), Fail> {
             };
             assert!(rt; full.gives(rt.alloc(), 5, &line[..room])?, "room {room}");
         }
+        let just_enough = Trial {
+            words,
+            room: line.len(),
+            ..Trial::of(text)
+        };
+        assert!(rt; just_enough.gives(rt.alloc(), status, line)?);
     }
     Ok(())
 }

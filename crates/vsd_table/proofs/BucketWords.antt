@@ -9,7 +9,7 @@ use Rattle.vsd_rule.specs.Rule.{Rule}
 use Rattle.vsd_rule.specs.RowSteps.{packed_bucket, after_bucket, after_put_bucket, after_empty_bucket}
 use Rattle.vsd_rule.specs.RowFacts.{IsFilledRow}
 use Rattle.vsd_rule.proofs.RuleByCells.{bucket_small, load_bucket_keeps, put_bucket_keeps, empty_bucket_keeps}
-use Rattle.vsd_table.specs.BucketKinds.{load_bucket, put_bucket, empty_bucket, BucketAndRow, FoundInBucket}
+use Rattle.vsd_table.specs.BucketKinds.{load_bucket, put_bucket, empty_bucket, FoundInBucket}
 use Rattle.vsd_table.specs.Seating.{key_of, view_of, Belongs}
 use Rattle.vsd_table.specs.Stepping.{MayLoad, MaySwap}
 use Rattle.vsd_table.specs.declared.shared.Shared.{Shared}

@@ -1,5 +1,5 @@
 -- Each step on cells and counters may be made.
-use Rattle.std.proofs.Common.{◌≡◌, ◌≢◌, ℕ, ◌+◌, ◌<◌, ◌%◌, ◌^◌, List, get_or, set, ap, sym, refl, ◌∙◌, subst, arith}
+use Rattle.std.proofs.Common.{◌≡◌, ℕ, ◌+◌, ◌<◌, ◌%◌, ◌^◌, List, get_or, set, ap, sym, refl, ◌∙◌, subst, arith}
 use mathlib.Core.Option.{some}
 use lib.ListN.{get_elem?}
 use Rattle.vsd_words.specs.declared.cell_word.CellWord.{CellWord}
@@ -15,12 +15,11 @@ use Rattle.vsd_rule.specs.RowSteps.{after_cell, after_to_dispatch, after_to_reso
 use Rattle.vsd_rule.specs.RowFacts.{IsFilledFor, CellInTable}
 use Rattle.vsd_rule.proofs.RuleByCells.{cell_packing, cell_in_table, load_cell_keeps, to_dispatch_won, to_dispatch_lost, to_resolve_won, to_resolve_lost, to_lookup_won, to_lookup_lost, count_keeps}
 use Rattle.vsd_table.specs.CellKinds.{load_cell, to_dispatch, to_resolve, to_lookup, count, SiteAndRow, Exchanged}
-use Rattle.vsd_table.specs.StepKind.{Kind}
 use Rattle.vsd_table.specs.Seating.{key_of, view_of, Belongs}
 use Rattle.vsd_table.specs.Stepping.{MayLoad, MayExchange, MayAdd}
 use Rattle.vsd_table.specs.declared.shared.Shared.{Shared}
 use Rattle.vsd_table.specs.declared.seated.Seated.{Seated}
-use Rattle.vsd_table.proofs.Kept.{Unique, Keeps, may_load, may_exchange, may_add}
+use Rattle.vsd_table.proofs.Kept.{Unique, may_load, may_exchange, may_add}
 
 load_unique : Unique load_cell
 load_unique s v x y word a b fits fits' = omega arith

@@ -1,3 +1,4 @@
+-- Lemmas that several proofs of this crate share.
 pub mod Kept
 pub mod Powers
 pub mod HandleWords

@@ -1,9 +1,6 @@
 -- Each step of retiring and sweeping may be made.
-use Rattle.std.proofs.Common.{◌≡◌, ℕ, ◌+◌, ◌<◌, ◌≤◌, ◌^◌, List, [], ◌∷◌, length, get_or, set, ap, sym, refl, ◌∙◌, subst, arith}
-use mathlib.Core.Option.{some}
-use lib.ListN.{get_elem?}
+use Rattle.std.proofs.Common.{◌≡◌, ℕ, ◌+◌, ◌<◌, ◌^◌, List, [], ◌∷◌, length, get_or, set, ap, sym, refl, ◌∙◌, subst, arith}
 use Rattle.vsd_rule.specs.declared.key.Key.{Key}
-use Rattle.vsd_rule.specs.declared.row_view.Keeping.{Keeping}
 use Rattle.vsd_rule.specs.declared.row_view.Keeping.TheVariants.{Unlinked}
 use Rattle.vsd_rule.specs.declared.row_view.KeptRow.{KeptRow}
 use Rattle.vsd_rule.specs.declared.view.View.{View}

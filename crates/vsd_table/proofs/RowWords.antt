@@ -1,8 +1,6 @@
 -- Each step on a row's words may be made.
-use Rattle.std.proofs.Common.{◌≡◌, ℕ, ◌<◌, ◌^◌, List, get_or, set, ap, sym, refl, ◌∙◌, subst, arith}
+use Rattle.std.proofs.Common.{◌≡◌, ℕ, ◌<◌, ◌^◌, get_or, set, ap, sym, refl, ◌∙◌, subst, arith}
 use Rattle.std.specs.Prelude.{nat_eq, cond}
-use mathlib.Core.Option.{some}
-use lib.ListN.{get_elem?}
 use Rattle.vsd_words.specs.declared.handle.Handle.{Handle}
 use Rattle.vsd_words.specs.Handle.{IsHandlePacking}
 use Rattle.vsd_words.proofs.Packings.{packed_handle-one_to_one}
@@ -16,8 +14,7 @@ use Rattle.vsd_rule.specs.Rule.{Rule}
 use Rattle.vsd_rule.specs.RowSteps.{offset_of, after_claim, after_set_handle, after_set_token, after_set_target, after_free, after_row_word}
 use Rattle.vsd_rule.specs.RowFacts.{IsPrivate, HasSomeEvidence, RowWordInRange, FindsAgain}
 use Rattle.vsd_rule.proofs.RuleByClaims.{claim_won, claim_lost, set_handle_keeps, set_token_keeps, set_target_keeps, free_row_keeps, row_word_keeps, found_in_range, found_again}
-use Rattle.vsd_table.specs.StepKind.{Kind}
-use Rattle.vsd_table.specs.RowKinds.{claim, load_row_word, set_handle, set_token, set_target, free, HandleOfRow, NumberOfRow, LoadedRowWord}
+use Rattle.vsd_table.specs.RowKinds.{claim, load_row_word, set_handle, set_token, set_target, free}
 use Rattle.vsd_table.specs.Seating.{key_of, view_of, Belongs}
 use Rattle.vsd_table.specs.Stepping.{MayLoad, MayStore, MayExchange}
 use Rattle.vsd_table.specs.declared.shared.Shared.{Shared}

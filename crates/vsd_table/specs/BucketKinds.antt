@@ -1,5 +1,5 @@
 -- The kinds of step on buckets.
-use Rattle.std.specs.Prelude.{◌≡◌, ℕ, ◌+◌, ◌<◌, ◌≤◌, Option}
+use Rattle.std.specs.Prelude.{◌≡◌, ℕ, ◌+◌, ◌≤◌, Option}
 use Rattle.vsd_rule.specs.declared.view.View.{View}
 use Rattle.vsd_rule.specs.Layout.{buckets_from}
 use Rattle.vsd_rule.specs.RowSteps.{packed_bucket, after_bucket, after_put_bucket, after_empty_bucket}

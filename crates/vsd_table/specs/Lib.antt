@@ -1,3 +1,4 @@
+-- What contracts of this crate cite.
 pub mod Offsets
 pub mod StepKind
 pub mod HandleKinds

@@ -14,7 +14,7 @@ use crate::shared::Shared;
 use vsd_words::HandleWord;
 
 impl Seated {
-    /// Loads the word of a row of handles. The caller learns the binding that it shows, where it is live.
+    /// Loads the word of a handle row. The caller learns the binding that it shows, where it is live.
     #[inline]
     pub fn handle_word(&mut self, table: &Shared, row: u16) -> HandleWord
         requires seat { Belongs table.now self.old }

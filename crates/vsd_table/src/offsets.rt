@@ -1,3 +1,4 @@
+//! Where the words of a table lie.
 ghost use Rattle.std.specs.Prelude.{◌≡◌, ◌<◌, ◌≤◌};
 ghost use Rattle.vsd_rule.specs.Sizes.{LawfulSizes};
 ghost use Rattle.vsd_rule.specs.Layout.{cast_rows};

@@ -1,3 +1,4 @@
+//! The seats of callers.
 ghost use Rattle.std.specs.Prelude.{◌≡◌, ◌<◌, ◌≤◌, ◌+◌, true};
 ghost use Rattle.vsd_rule.specs.Layout.{first_row, handle_rows};
 ghost use Rattle.vsd_rule.specs.Facts.{SmallEpoch};
@@ -32,7 +33,7 @@ impl Seated {
         self.caller
     }
 
-    /// The first of the caller's 64 rows of handles.
+    /// The first of the caller's 64 handle rows.
     pub fn first_row(&self) -> u16
         ensures row { result ≡ first_row (view_of self.now).key.sizes (caller_of (view_of self.now).who) }
         ensures caller { is_caller (view_of self.now).who ≡ true }

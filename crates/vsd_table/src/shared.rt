@@ -1,3 +1,4 @@
+//! The shared table under its rule.
 ghost use Rattle.std.specs.Prelude.{◌≡◌, ◌+◌, ◌*◌, ◌^◌, ◌<◌, ◌≤◌, IfSome};
 ghost use Rattle.vsd_words.specs.declared.cell_word.CellWord.TheVariants.{Dispatch};
 ghost use Rattle.vsd_words.specs.CellWord.{packed_cell};
@@ -118,7 +119,7 @@ impl Shared {
         self.offsets.rows + (4 * usize::from(row) + offset_of(which))
     }
 
-    /// Where the word of a row of handles lies.
+    /// Where the word of a handle row lies.
     #[inline]
     pub(crate) fn handle_index(&self, row: u16) -> usize
         requires { row < handle_rows (key_of self.now).sizes }

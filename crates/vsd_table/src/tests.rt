@@ -1,3 +1,4 @@
+//! Tests of what no clause says.
 ghost use Rattle.std.specs.Prelude.{[]};
 ghost use Rattle.std.proofs.Common.{rules};
 

@@ -1,3 +1,4 @@
+-- Lemmas that several proofs of this crate share.
 pub mod Induction
 pub mod KeyLemmas
 pub mod PlaceLemmas

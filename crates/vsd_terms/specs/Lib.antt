@@ -1,3 +1,4 @@
+-- What contracts of this crate cite.
 pub mod Equality
 pub mod Keys
 pub mod Names

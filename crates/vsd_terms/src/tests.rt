@@ -1,3 +1,4 @@
+//! Tests of what no clause says.
 use super::*;
 use indexmap::IndexSet;
 use std::alloc::{AllocError, Global};

@@ -3,7 +3,8 @@ use Rattle.std.proofs.Common.{◌≡◌, ◌≢◌, ℕ, zero, suc, ◌+◌, ◌
 use Rattle.std.specs.Prelude.{IfOk}
 use Rattle.std.specs.List.{prefix_len, AllPass}
 use Rattle.std.proofs.Math.Numerals.{add-one}
-use Rattle.std.proofs.lemmas.Bool.{cond_both, eqb-true, eqb-false, true≢false, or_cases, or_left, or_right, not-false}
+use Rattle.std.proofs.lemmas.Bool.{cond_both, eqb-true, eqb-false, true≢false, or_cases, not-false}
+use Rattle.vsd_text.proofs.Classes.{letter_runs, digit_runs}
 use Rattle.std.proofs.lemmas.List.{length-append, length-drop, take_at, drop_at, drop_all}
 use Rattle.std.proofs.lemmas.List.Sums.{prefix_len-le-length}
 use Rattle.vsd_text.specs.Bytes.{is_separator, is_digit, is_letter, is_run_byte, is_printable, is_quoted_byte, is_line_byte, is_line_feed}
@@ -17,14 +18,6 @@ use Rattle.vsd_text.proofs.Fronts.{passes_amid, not_empty, front_passes, front_s
 use Rattle.vsd_text.proofs.LineFeeds.{take_next}
 use Rattle.vsd_text.proofs.Quotes.{TextSplit, ended, cut_off, text_split, text_len-of_content}
 use Rattle.vsd_text.proofs.Comments.{CommentSplit, closed, open_ended, comment_split, comment_len-of_body, comment_len-of_open}
-
-pub letter_runs : (b : ℕ) → is_letter b ≡ true → is_run_byte b ≡ true
-unfolding is_run_byte
-letter_runs b letter = or_left _ _ letter
-
-pub digit_runs : (b : ℕ) → is_digit b ≡ true → is_run_byte b ≡ true
-unfolding is_run_byte
-digit_runs b digit = or_right _ _ digit
 
 run_is_letter : (b : ℕ) → is_run_byte b ≡ true → is_digit b ≡ false → is_letter b ≡ true
 unfolding is_run_byte

@@ -10,9 +10,9 @@ use Rattle.vsd_text.specs.Tokens.{first_piece, twin_or_symbol, closed_by, slash_
 use Rattle.vsd_text.specs.Spelling.{IsRun, IsQuoted, IsText, IsSymbol, IsLexeme, IsLongest, IsSeparator, IsLineComment, IsBlockComment, EndsLine, IsGap, Part, gap, lexeme, separator, line_comment, block_comment, bytes_of, IsPart}
 use Rattle.vsd_text.specs.declared.tokens.TokenKind.{TokenKind}
 use Rattle.vsd_text.specs.declared.tokens.TokenKind.TheVariants.{Word, Quoted, Number, Text, Symbol, Colons, Percents}
-use Rattle.vsd_text.proofs.Classes.{letter_is_no_digit, printable_is_no_separator, separator_is_no_run_byte}
+use Rattle.vsd_text.proofs.Classes.{letter_runs, digit_runs, letter_is_no_digit, printable_is_no_separator, separator_is_no_run_byte}
 use Rattle.vsd_text.proofs.Fronts.{Stops, prefix_len-of_front}
-use Rattle.vsd_text.proofs.Parts.{letter_runs, digit_runs, quote_ends}
+use Rattle.vsd_text.proofs.Parts.{quote_ends}
 use Rattle.vsd_text.proofs.Quotes.{text_len-of_content}
 use Rattle.vsd_text.proofs.Comments.{comment_len-of_body}
 

@@ -1,19 +1,18 @@
 -- One step through a text: from a piece's place to the place after it.
-use Rattle.std.proofs.Common.{◌≡◌, true, rules, ℕ, zero, suc, ◌+◌, ◌<◌, ◌≤◌, List, [], ◌∷◌, ◌++◌, length, get_or, take, drop, Option, Some, None, Result, Ok, Err, refl, sym, ap, ◌∙◌, arith, append_assoc, nat_lt, eqb}
+use Rattle.std.proofs.Common.{◌≡◌, ℕ, zero, suc, ◌+◌, ◌<◌, ◌≤◌, List, [], ◌∷◌, ◌++◌, length, get_or, take, drop, Option, Some, None, Result, Ok, Err, refl, sym, ap, ◌∙◌, arith, append_assoc, nat_lt, eqb}
 use Rattle.std.specs.Prelude.{All, IfSome}
 use Rattle.std.proofs.Math.Numerals.{add-one}
 use Rattle.std.proofs.lemmas.Bool.{cond_both, cond-false, eqb-true, false≢true, and_parts, le-ltb}
 use Rattle.std.specs.List.{starts_with}
 use Rattle.std.proofs.lemmas.List.{drop_more, drop_all, drop-drop, append-nil, length-drop}
-use Rattle.vsd_text.specs.Bytes.{is_separator, is_line_feed}
-use Rattle.vsd_text.specs.Tokens.{first_piece, gap_piece, line_feeds, mark_len, byte_order_mark, tokens_from, tokens_of, token_at, tokens_at, before, with_piece, refusal_of, text_limit, LiesWithin}
+use Rattle.vsd_text.specs.Bytes.{is_line_feed}
+use Rattle.vsd_text.specs.Tokens.{first_piece, line_feeds, mark_len, byte_order_mark, tokens_from, tokens_of, token_at, tokens_at, before, with_piece, refusal_of, text_limit, LiesWithin}
 use Rattle.vsd_text.specs.declared.tokens.Token.{Token}
 use Rattle.vsd_text.specs.declared.tokens.TokenKind.{TokenKind}
 use Rattle.vsd_text.specs.declared.tokens.LexError.{LexError}
 use Rattle.vsd_text.specs.declared.tokens.LexError.TheVariants.{BadByte, OpenComment, OpenQuote, TooLong, Memory}
 use Rattle.vsd_text.specs.declared.pieces.Piece.{Piece}
 use Rattle.std.proofs.lemmas.List.Elements.{All-nil, All-cons}
-use Rattle.vsd_text.proofs.Classes.{separator_is_no_run_byte}
 use Rattle.vsd_text.proofs.LineFeeds.{line_feeds-cons, piece_has_margins}
 
 -- passing over n bytes is to go on after them, on the line that they lead to
@@ -113,24 +112,6 @@ tokens_of-short text short =
     same (Ok ts) = refl
     same (Err e) = refl
 
--- no tokens before a reading
-before-nil : (r : Result (List Token) LexError) → before [] r ≡ r
-unfolding before
-before-nil (Ok ts) = refl
-before-nil (Err e) = refl
-
--- a separator stands between tokens
-separator_piece : (line b : ℕ) (bs : List ℕ) → is_separator b ≡ true → first_piece line b bs ≡ gap_piece 0
-unfolding first_piece
-separator_piece line b bs separates = rw (separator_is_no_run_byte b separates, separates) refl
-
--- passing over a separator
-tokens_from-separator : (at line b : ℕ) (bs : List ℕ) → is_separator b ≡ true → tokens_from at line 0 (b ∷ bs) ≡ tokens_from (at + 1) (line + line_feeds (b ∷ [])) 0 bs
-unfolding tokens_from with_piece tokens_at
-tokens_from-separator at line b bs separates =
-    ap (λ found. with_piece at line found (λ n. tokens_from (at + 1) (line + line_feeds (b ∷ [])) n bs)) (separator_piece line b bs separates)
-    ∙ before-nil _
-
 module _ (text : List ℕ) (tokens : List Token) (at line : ℕ) (reached : tokens_of text ≡ before tokens (tokens_from at line 0 (drop at text))) where
   -- at the end of the text
   pub tokens_of-at_end : length text ≤ at → tokens_of text ≡ Ok tokens
@@ -142,18 +123,21 @@ module _ (text : List ℕ) (tokens : List Token) (at line : ℕ) (reached : toke
   unfolding before
   tokens_of-refused e lt is = reached ∙ ap (before tokens) (tokens_from-refused text at line e lt is)
 
-  -- after a separator
-  pub tokens_of-after_separator : at < length text → is_separator (get_or text at 0) ≡ true → tokens_of text ≡ before tokens (tokens_from (at + 1) (line + line_feeds (get_or text at 0 ∷ [])) 0 (drop (at + 1) text))
-  tokens_of-after_separator lt separates =
-      reached ∙ ap (λ bs. before tokens (tokens_from at line 0 bs)) (drop_more text at 0 lt)
-      ∙ ap (before tokens) (tokens_from-separator at line (get_or text at 0) (drop (at + 1) text) separates)
-
   -- after a piece
   pub tokens_of-after : (piece : Piece) → at + piece.more < length text → first_piece line (get_or text at 0) (drop (at + 1) text) ≡ Ok piece → tokens_of text ≡ before (tokens ++ tokens_at at line piece) (tokens_from (at + (1 + piece.more)) (line + line_feeds (take (piece.more + 1) (drop at text))) 0 (drop (at + (1 + piece.more)) text))
   tokens_of-after piece lt is =
       let there : at + 1 + piece.more ≡ at + (1 + piece.more) = omega arith in
       reached ∙ ap (before tokens) (tokens_from-piece text at line piece lt is) ∙ before-before tokens _ _
       ∙ ap (λ n. before (tokens ++ tokens_at at line piece) (tokens_from n (line + line_feeds (take (piece.more + 1) (drop at text))) 0 (drop n text))) there
+
+-- a piece is one token at most
+pub tokens_at-few : (at line : ℕ) (piece : Piece) → length (tokens_at at line piece) ≤ 1
+unfolding tokens_at
+tokens_at-few at line piece = by_kind piece.kind refl
+  where
+    by_kind : (kind : Option TokenKind) → piece.kind ≡ kind → length (tokens_at at line piece) ≤ 1
+    by_kind None none = rw none (omega arith)
+    by_kind (Some kind) some = rw some (omega arith)
 
 -- the token of a piece lies in the text
 pub tokens_at-inside : (text : List ℕ) (at line : ℕ) (piece : Piece) → at + piece.more < length text → first_piece line (get_or text at 0) (drop (at + 1) text) ≡ Ok piece → All (LiesWithin text) (tokens_at at line piece)

@@ -1,5 +1,7 @@
 -- The kinds of byte.
 use Rattle.std.specs.Prelude.{ℕ, Bool, ◌==◌, ◌&&◌, ◌||◌, nat_le, not}
+use Rattle.vsd_text.specs.declared.bytes.ByteClass.{ByteClass}
+use Rattle.vsd_text.specs.declared.bytes.ByteClass.TheVariants.{Letter, Digit, Symbol, Space, LineFeed, Twin, Opening, Bad}
 
 -- tab, line feed, carriage return or space
 unfoldable pub is_separator : ℕ → Bool
@@ -32,3 +34,22 @@ is_line_byte b = not (is_line_feed b)
 -- a byte that may stand in a token: one of the printable bytes
 unfoldable pub is_printable : ℕ → Bool
 is_printable b = nat_le 33 b && nat_le b 126
+
+-- a byte of which two may make one token: `:` or `%`
+unfoldable pub is_twin : ℕ → Bool
+is_twin b = b == 58 || b == 37
+
+-- a byte that opens a quote or may open a comment: a quote or `/`
+unfoldable pub is_opening : ℕ → Bool
+is_opening b = b == 39 || b == 34 || b == 47
+
+-- the byte is of this class
+unfoldable pub is_of_class : ByteClass → ℕ → Bool
+is_of_class Letter b = is_letter b
+is_of_class Digit b = is_digit b
+is_of_class Symbol b = is_printable b && not (is_run_byte b || is_twin b || is_opening b)
+is_of_class Space b = is_separator b && not (is_line_feed b)
+is_of_class LineFeed b = is_line_feed b
+is_of_class Twin b = is_twin b
+is_of_class Opening b = is_opening b
+is_of_class Bad b = not (is_printable b || is_separator b)

@@ -1,3 +1,4 @@
+-- What contracts of this crate cite.
 pub mod Bytes
 pub mod Outcome
 pub mod Spelling

@@ -1,5 +1,5 @@
 -- The token list of a text.
-use Rattle.std.specs.Prelude.{◌≡◌, ◌≤◌, ℕ, slice_index, zero, suc, ◌+◌, ◌-◌, ◌==◌, ◌&&◌, ◌||◌, nat_eq, nat_lt, Bool, true, false, if◌then◌else◌, List, [], ◌∷◌, ◌++◌, length, drop, count_by, Option, Some, None, Result, Ok, Err}
+use Rattle.std.specs.Prelude.{◌≡◌, ◌≢◌, ◌≤◌, ℕ, slice_index, zero, suc, ◌+◌, ◌-◌, ◌==◌, ◌&&◌, ◌||◌, nat_eq, nat_lt, Bool, true, false, if◌then◌else◌, List, [], ◌∷◌, ◌++◌, length, drop, count_by, Option, Some, None, Result, Ok, Err}
 use Rattle.std.specs.List.{prefix_len, starts_with}
 use Rattle.std.specs.Option.{option_map, option_to_list}
 use Rattle.vsd_text.specs.declared.tokens.TokenKind.{TokenKind}
@@ -101,6 +101,10 @@ abbrev pub margin : TokenKind → ℕ
 margin Quoted = 1
 margin Text = 1
 margin _ = 0
+
+-- the piece is a token that holds no line feed, whatever it holds
+abbrev pub IsOneLineToken : Piece → Type 0
+IsOneLineToken piece = (kind : TokenKind) × ((piece.kind ≡ Some kind) × (kind ≢ Text))
 
 -- the token that begins at this place and line and has n bytes after its first one, quotes included
 unfoldable pub token_at : ℕ → ℕ → TokenKind → ℕ → Token

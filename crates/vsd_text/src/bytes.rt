@@ -1,43 +1,63 @@
-// The kinds of byte.
-ghost use Rattle.std.specs.Prelude.{◌≡◌, ℕ, Bool};
-ghost use Rattle.vsd_text.specs.Bytes.{is_separator, is_digit, is_run_byte, is_printable, is_quoted_byte, is_line_byte};
+//! The classes of bytes.
+ghost use Rattle.std.specs.Prelude.{◌≡◌, ℕ, Bool, IsTrue};
+ghost use Rattle.vsd_text.specs.Bytes.{is_of_class, is_run_byte, is_quoted_byte, is_line_byte};
 
-#[tactic(auto, unfolding(crate::specs::Bytes::is_separator))]
-pub(crate) fn is_separator(byte: u8) -> bool
-    ensures { result ≡ is_separator byte }
-{
-    matches!(byte, b'\t' | b'\n' | b'\r' | b' ')
+/// What a byte is where a token or what stands between tokens may begin.
+#[derive(Clone, Copy)]
+pub(crate) enum ByteClass {
+    /// Begins a Word.
+    Letter,
+    /// Begins a Number.
+    Digit,
+    /// Is a Symbol, whatever follows.
+    Symbol,
+    /// Separates tokens, and ends no line.
+    Space,
+    /// Separates tokens and ends a line.
+    LineFeed,
+    /// `:` or `%`: a Symbol, or one token with a second such byte.
+    Twin,
+    /// A quote or `/`: what it opens depends on the bytes after it.
+    Opening,
+    /// Begins nothing.
+    Bad,
 }
 
-#[tactic(auto, unfolding(crate::specs::Bytes::is_digit))]
-pub(crate) fn is_digit(byte: u8) -> bool
-    ensures { result ≡ is_digit byte }
-{
-    byte.is_ascii_digit()
-}
+// One letter a class, for the table.
+const L: ByteClass = ByteClass::Letter;
 
-#[tactic(auto, unfolding(crate::specs::Bytes::is_printable))]
-pub(crate) fn is_printable(byte: u8) -> bool
-    ensures { result ≡ is_printable byte }
-{
-    matches!(byte, b'!'..=b'~')
-}
+const D: ByteClass = ByteClass::Digit;
 
-const T: bool = true;
+const Y: ByteClass = ByteClass::Symbol;
 
-const F: bool = false;
+const S: ByteClass = ByteClass::Space;
 
-// Which bytes may stand in a Word or a Number: a look-up is faster than the comparisons.
-const RUN_BYTES: [bool; 256] = [
-    F, F, F, F, F, F, F, F, F, F, F, F, F, F, F, F, F, F, F, F, F, F, F, F, F, F, F, F, F, F, F, F,
-    F, F, F, F, T, F, F, F, F, F, F, F, F, F, T, F, T, T, T, T, T, T, T, T, T, T, F, F, F, F, F, T,
-    T, T, T, T, T, T, T, T, T, T, T, T, T, T, T, T, T, T, T, T, T, T, T, T, T, T, T, F, F, F, F, T,
-    T, T, T, T, T, T, T, T, T, T, T, T, T, T, T, T, T, T, T, T, T, T, T, T, T, T, T, F, F, F, F, F,
-    F, F, F, F, F, F, F, F, F, F, F, F, F, F, F, F, F, F, F, F, F, F, F, F, F, F, F, F, F, F, F, F,
-    F, F, F, F, F, F, F, F, F, F, F, F, F, F, F, F, F, F, F, F, F, F, F, F, F, F, F, F, F, F, F, F,
-    F, F, F, F, F, F, F, F, F, F, F, F, F, F, F, F, F, F, F, F, F, F, F, F, F, F, F, F, F, F, F, F,
-    F, F, F, F, F, F, F, F, F, F, F, F, F, F, F, F, F, F, F, F, F, F, F, F, F, F, F, F, F, F, F, F,
+const N: ByteClass = ByteClass::LineFeed;
+
+const T: ByteClass = ByteClass::Twin;
+
+const O: ByteClass = ByteClass::Opening;
+
+const B: ByteClass = ByteClass::Bad;
+
+// The class of each byte: a look-up is faster than the comparisons.
+static CLASSES: [ByteClass; 256] = [
+    B, B, B, B, B, B, B, B, B, S, N, B, B, S, B, B, B, B, B, B, B, B, B, B, B, B, B, B, B, B, B, B,
+    S, Y, O, Y, L, T, Y, O, Y, Y, Y, Y, Y, Y, L, O, D, D, D, D, D, D, D, D, D, D, T, Y, Y, Y, Y, L,
+    L, L, L, L, L, L, L, L, L, L, L, L, L, L, L, L, L, L, L, L, L, L, L, L, L, L, L, Y, Y, Y, Y, L,
+    L, L, L, L, L, L, L, L, L, L, L, L, L, L, L, L, L, L, L, L, L, L, L, L, L, L, L, Y, Y, Y, Y, B,
+    B, B, B, B, B, B, B, B, B, B, B, B, B, B, B, B, B, B, B, B, B, B, B, B, B, B, B, B, B, B, B, B,
+    B, B, B, B, B, B, B, B, B, B, B, B, B, B, B, B, B, B, B, B, B, B, B, B, B, B, B, B, B, B, B, B,
+    B, B, B, B, B, B, B, B, B, B, B, B, B, B, B, B, B, B, B, B, B, B, B, B, B, B, B, B, B, B, B, B,
+    B, B, B, B, B, B, B, B, B, B, B, B, B, B, B, B, B, B, B, B, B, B, B, B, B, B, B, B, B, B, B, B,
 ];
+
+/// The class of the byte.
+pub(crate) fn class_of(byte: u8) -> ByteClass
+    ensures { IsTrue (is_of_class result byte) }
+{
+    CLASSES[byte as usize]
+}
 
 /// A test of one byte.
 pub(crate) trait ByteTest {
@@ -54,7 +74,7 @@ impl ByteTest for RunByte {
     ghost passes = { is_run_byte };
 
     fn passes(byte: u8) -> bool {
-        RUN_BYTES[byte as usize]
+        matches!(class_of(byte), ByteClass::Letter | ByteClass::Digit)
     }
 }
 

@@ -1,4 +1,4 @@
-// What the definition of the token list comes to.
+//! What the definition of the token list comes to.
 ghost use Rattle.std.specs.Prelude.{◌≡◌, ◌<◌, ◌≤◌, ◌+◌, ◌↔◌, ◌⊎◌, ℕ, List, Ok, Err, take, length, All};
 ghost use Rattle.vsd_text.specs.declared.tokens.Token.{Token};
 ghost use Rattle.vsd_text.specs.declared.tokens.LexError.{LexError};

@@ -1,10 +1,10 @@
-// Cuts a text into tokens.
+//! Cuts a text into tokens.
 ghost use Rattle.std.specs.Prelude.{◌≡◌, ◌≤◌, ◌<◌, ◌+◌, ◌^◌, [], ◌∷◌, ◌++◌, length, take, drop, IfOk, IfErr, OnOk, All};
 ghost use Rattle.vsd_text.specs.Outcome.{Gives};
-ghost use Rattle.vsd_text.specs.Tokens.{IsPieceAt, line_feeds, mark_len, token_at, tokens_at, tokens_of, refusal_of, LiesWithin};
+ghost use Rattle.vsd_text.specs.Tokens.{IsPieceAt, line_feeds, mark_len, token_at, tokens_at, tokens_of, refusal_of, text_limit, LiesWithin};
 
-use crate::bytes::is_separator;
-use crate::pieces::{Piece, piece_at};
+use crate::bytes::{ByteClass, class_of};
+use crate::pieces::{Piece, opened_at, run_at, twin_at};
 use crate::tokens::{LexError, Token, TokenKind};
 use std::alloc::Global;
 
@@ -26,14 +26,6 @@ fn line_feeds(bytes: &[u8]) -> u32
     count
 }
 
-// The same of one byte: most gaps are one separator.
-#[tactic(auto, unfolding(crate::specs::Bytes::is_line_feed))]
-fn line_feed(byte: u8) -> u32
-    ensures { result ≡ line_feeds (byte ∷ []) }
-{
-    u32::from(byte == b'\n')
-}
-
 // How many line feeds stand in the piece at `at`: only comments, separators and Text tokens have any.
 fn piece_line_feeds(text: &[u8], at: usize, piece: Piece) -> u32
     requires in_range { at + piece.more < length text.now }
@@ -45,9 +37,6 @@ fn piece_line_feeds(text: &[u8], at: usize, piece: Piece) -> u32
         if !kind.may_hold_line_feeds() {
             return 0;
         }
-    }
-    if piece.more == 0 {
-        return line_feed(text[at]);
     }
     line_feeds(&text[at..at + 1 + piece.more])
 }
@@ -85,7 +74,7 @@ fn token_at(at: usize, line: u32, kind: TokenKind, more: usize) -> Token
 
 // Adds the token, if it is one, of the piece at `at`.
 #[tactic(auto, unfolding(crate::specs::Tokens::tokens_at))]
-fn push_token(tokens: &mut Vec<Token>, at: usize, line: u32, piece: Piece) -> Result<(), LexError>
+fn push_piece(tokens: &mut Vec<Token>, at: usize, line: u32, piece: Piece) -> Result<(), LexError>
     requires { at + piece.more < 2 ^ 31 }
     ensures ok { OnOk result (tokens.new.items ≡ tokens.old.items ++ tokens_at at line piece) }
     ensures memory { IfErr result (λ e. e ≡ LexError.Memory) }
@@ -106,6 +95,7 @@ fn push_token(tokens: &mut Vec<Token>, at: usize, line: u32, piece: Piece) -> Re
 pub fn lex(alloc: Global, text: &[u8]) -> Result<Vec<Token>, LexError>
     ensures exact { Gives (λ tokens. tokens.items) refusal_of result (tokens_of text.now) }
     ensures inside { IfOk result (λ tokens. All (LiesWithin text.now) tokens.items) }
+    ensures few { IfOk result (λ tokens. length tokens.items ≤ text_limit) }
 {
     if text.len() > TEXT_LIMIT {
         return Err(LexError::TooLong);
@@ -114,16 +104,40 @@ pub fn lex(alloc: Global, text: &[u8]) -> Result<Vec<Token>, LexError>
     let mut at = mark_len(text);
     let mut line = 1;
     while at < text.len() {
-        // Most of what stands between tokens: the shortest way for it.
-        if is_separator(text[at]) {
-            line += line_feed(text[at]);
-            at += 1;
-            continue;
+        match class_of(text[at]) {
+            ByteClass::Letter => {
+                let piece = run_at(text, at, TokenKind::Word);
+                push_piece(&mut tokens, at, line, piece)?;
+                at += 1 + piece.more;
+            }
+            ByteClass::Digit => {
+                let piece = run_at(text, at, TokenKind::Number);
+                push_piece(&mut tokens, at, line, piece)?;
+                at += 1 + piece.more;
+            }
+            ByteClass::Symbol => {
+                let piece = Piece::token(TokenKind::Symbol(text[at]), 0);
+                push_piece(&mut tokens, at, line, piece)?;
+                at += 1;
+            }
+            ByteClass::Twin => {
+                let piece = twin_at(text, at);
+                push_piece(&mut tokens, at, line, piece)?;
+                at += 1 + piece.more;
+            }
+            ByteClass::Space => at += 1,
+            ByteClass::LineFeed => {
+                at += 1;
+                line += 1;
+            }
+            ByteClass::Opening => {
+                let piece = opened_at(text, at, line)?;
+                push_piece(&mut tokens, at, line, piece)?;
+                line += piece_line_feeds(text, at, piece);
+                at += 1 + piece.more;
+            }
+            ByteClass::Bad => return Err(LexError::BadByte { line }),
         }
-        let piece = piece_at(text, at, line)?;
-        push_token(&mut tokens, at, line, piece)?;
-        line += piece_line_feeds(text, at, piece);
-        at += 1 + piece.more;
     }
     Ok(tokens)
 }

@@ -8,5 +8,5 @@ mod pieces;
 mod tokens;
 
 pub use laws::token_list_law;
-pub use lexer::lex;
+pub use lexer::{TEXT_LIMIT, lex};
 pub use tokens::{LexError, Token, TokenKind, token_is};

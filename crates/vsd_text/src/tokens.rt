@@ -1,4 +1,4 @@
-// Tokens, and the refusals of a text that has none.
+//! Tokens, and the refusals of a text that has none.
 ghost use Rattle.std.specs.Prelude.{◌≡◌, ◌≤◌, ◌↔◌, length, IsTrue, slice_range};
 ghost use Rattle.vsd_text.specs.declared.tokens.LexError.TheVariants.{Memory};
 

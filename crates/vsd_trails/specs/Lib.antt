@@ -1,3 +1,4 @@
+-- What contracts of this crate cite.
 pub mod Programs
 pub mod Laws
 pub mod Words

@@ -1,3 +1,5 @@
+//! What operations answer.
+
 use thiserror::Error;
 use vsd_words::{CellWord, Handle, HandleWord};
 

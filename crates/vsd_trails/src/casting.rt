@@ -1,3 +1,5 @@
+//! What the cast cache answers.
+
 /// A pair that no probe of the cast cache held, and what `put` needs to know of the probes.
 #[derive(Clone, Copy, PartialEq, Eq, Debug)]
 pub struct Miss {

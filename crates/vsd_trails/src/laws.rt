@@ -1,4 +1,4 @@
-// What holds of every program, and of the words that it reads. Each law is a function that does nothing and ensures it.
+//! What holds of every program, and of the words that it reads. Each law is a function that does nothing and ensures it.
 ghost use Rattle.std.specs.Prelude.{◌≡◌, ℕ, Option};
 ghost use Rattle.vsd_words.specs.declared.handle.Handle.{Handle};
 ghost use Rattle.vsd_words.specs.declared.cell_word.CellWord.{CellWord};

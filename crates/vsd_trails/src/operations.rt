@@ -1,4 +1,4 @@
-// What holds of the operations. Each law is a function that does nothing and ensures it.
+//! What holds of the operations. Each law is a function that does nothing and ensures it.
 ghost use Rattle.std.specs.Prelude.{◌⊎◌, ℕ, ◌+◌, ◌*◌, ◌<◌, List, [], ◌∷◌, Result, Ok, Err};
 ghost use Rattle.vsd_words.specs.declared.handle.Handle.{Handle};
 ghost use Rattle.vsd_rule.specs.declared.key.Key.{Key};

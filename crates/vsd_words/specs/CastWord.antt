@@ -1,3 +1,4 @@
+-- Cast words.
 use Rattle.std.specs.Prelude.{ℕ, ◌+◌, ◌*◌}
 use Rattle.std.specs.Int.{from_bool}
 use Rattle.vsd_words.specs.declared.cast_word.CastWord.{CastWord}

@@ -1,3 +1,4 @@
+-- Handle words.
 use Rattle.std.specs.Prelude.{ℕ, ◌+◌, ◌*◌, ◌<◌, ◌^◌}
 use Rattle.std.specs.Int.{from_bool}
 use Rattle.vsd_words.specs.declared.handle_word.HandleWord.{HandleWord}

@@ -1,3 +1,4 @@
+-- What contracts of this crate cite.
 pub mod Packing
 pub mod Handle
 pub mod CellWord

@@ -1,3 +1,4 @@
+//! Cast words.
 ghost use Rattle.std.specs.Prelude.{◌≡◌, ◌<◌, ◌^◌};
 ghost use Rattle.vsd_words.specs.Packing.{Unpacks};
 ghost use Rattle.vsd_words.specs.CastWord.{CastWordInRange, packed_cast, IsCastPacking};

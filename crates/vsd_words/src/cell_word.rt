@@ -1,3 +1,4 @@
+//! The words of indirection cells.
 ghost use Rattle.std.specs.Prelude.{◌≡◌, ◌<◌};
 ghost use Rattle.vsd_words.specs.Packing.{Unpacks};
 ghost use Rattle.vsd_words.specs.CellWord.{CellWordInRange, packed_cell, IsCellPacking};

@@ -1,3 +1,4 @@
+//! Handles.
 ghost use Rattle.std.specs.Prelude.{◌≡◌, ◌<◌, ◌^◌};
 ghost use Rattle.vsd_words.specs.Packing.{Unpacks};
 ghost use Rattle.vsd_words.specs.Handle.{HandleInRange, packed_handle, IsHandlePacking};

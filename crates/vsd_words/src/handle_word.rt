@@ -1,3 +1,4 @@
+//! Handle words.
 ghost use Rattle.std.specs.Prelude.{◌≡◌, ◌<◌, ◌^◌};
 ghost use Rattle.vsd_words.specs.Packing.{Unpacks};
 ghost use Rattle.vsd_words.specs.HandleWord.{HandleWordInRange, packed_handle_word, IsHandleWordPacking};

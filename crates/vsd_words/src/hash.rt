@@ -1,3 +1,4 @@
+//! Hashes.
 ghost use Rattle.std.specs.Prelude.{◌≡◌, ◌<◌};
 ghost use Rattle.vsd_words.specs.Handle.{HandleInRange};
 ghost use Rattle.vsd_words.specs.Hash.{IsBucketCount, IsRegionSize, mix, bucket_of, home_of};

@@ -1,3 +1,4 @@
+//! Tests of what no clause says.
 use super::*;
 
 const LOW: Handle = Handle {

@@ -12,25 +12,25 @@ loop-turn-init g c = λ f h.
 
 pub returns-in-Stop-clause-reads : goal.returns-in-Stop-clause-reads
 returns-in-Stop-clause-reads g c = λ f h.
-    scan_stops f (run _ (scan _ f c.args.state) c.args.cursor.now) _ _ c.loop-turn.state c.loop-turn.cursor c.peek.result c.turn.result
-    (c.loop-turn.invariant f h) c.loop-turn-test.true c.peek.ensures (h c.peek.result c.loop-turn.state c.turn.result c.turn.ensures) c.in-Stop.is
+    scan_stops f (run _ (scan _ f c.args.state) c.args.cursor.now) _ _ c.loop-turn.state c.loop-turn.cursor c.class.result c.turn.result
+    (c.loop-turn.invariant f h) c.loop-turn-test.true c.class.ensures (h c.class.result c.loop-turn.state c.turn.result c.turn.ensures) c.in-Stop.is
 
 pub returns-in-Refuse-clause-reads : goal.returns-in-Refuse-clause-reads
 returns-in-Refuse-clause-reads g c = λ f h.
-    scan_refuses f (run _ (scan _ f c.args.state) c.args.cursor.now) _ _ c.loop-turn.state c.loop-turn.cursor c.peek.result c.turn.result c.in-Refuse.cause c.refuse.result c.loop-turn.cursor
-    (c.loop-turn.invariant f h) c.loop-turn-test.true c.peek.ensures (h c.peek.result c.loop-turn.state c.turn.result c.turn.ensures) c.in-Refuse.is c.refuse.ensures
+    scan_refuses f (run _ (scan _ f c.args.state) c.args.cursor.now) _ _ c.loop-turn.state c.loop-turn.cursor c.class.result c.turn.result c.in-Refuse.cause c.refuse.result c.loop-turn.cursor
+    (c.loop-turn.invariant f h) c.loop-turn-test.true c.class.ensures (h c.class.result c.loop-turn.state c.turn.result c.turn.ensures) c.in-Refuse.is c.refuse.ensures
 
 pub returns-in_err-pass-in-Pass-clause-reads : goal.returns-in_err-pass-in-Pass-clause-reads
 returns-in_err-pass-in-Pass-clause-reads g c = λ f h.
     let x : Reads (run _ (scan _ f c.args.state) c.args.cursor.now) (Err c.in_err-pass-in-Pass.field-0.0) c.pass.new.self =
-    scan_cannot_pass f (run _ (scan _ f c.args.state) c.args.cursor.now) (c.left-turn-end.result + 1) c.loop-turn._turn c.loop-turn.state c.loop-turn.cursor c.peek.result c.turn.result c.in-Pass.next c.in_err-pass-in-Pass.field-0.0 c.pass.new.self c.pass.new.self
-    (c.loop-turn.invariant f h) c.loop-turn-test.true c.peek.ensures (h c.peek.result c.loop-turn.state c.turn.result c.turn.ensures) c.in-Pass.is c.in_err-pass-in-Pass.ensures.reads in
+    scan_cannot_pass f (run _ (scan _ f c.args.state) c.args.cursor.now) (c.left-turn-end.result + 1) c.loop-turn._turn c.loop-turn.state c.loop-turn.cursor c.class.result c.turn.result c.in-Pass.next c.in_err-pass-in-Pass.field-0.0 c.pass.new.self c.pass.new.self
+    (c.loop-turn.invariant f h) c.loop-turn-test.true c.class.ensures (h c.class.result c.loop-turn.state c.turn.result c.turn.ensures) c.in-Pass.is c.in_err-pass-in-Pass.ensures.reads in
     search rules
 
 pub loop-turn-preserved : goal.loop-turn-preserved
 loop-turn-preserved g c = λ f h.
-    scan_passes f (run _ (scan _ f c.args.state) c.args.cursor.now) _ _ c.loop-turn.state c.loop-turn.cursor c.peek.result c.turn.result c.in-Pass.next c.pass.new.self
-    (c.loop-turn.invariant f h) c.loop-turn-test.true c.peek.ensures (h c.peek.result c.loop-turn.state c.turn.result c.turn.ensures) c.in-Pass.is c.in_ok-pass-in-Pass.ensures.reads
+    scan_passes f (run _ (scan _ f c.args.state) c.args.cursor.now) _ _ c.loop-turn.state c.loop-turn.cursor c.class.result c.turn.result c.in-Pass.next c.pass.new.self
+    (c.loop-turn.invariant f h) c.loop-turn-test.true c.class.ensures (h c.class.result c.loop-turn.state c.turn.result c.turn.ensures) c.in-Pass.is c.in_ok-pass-in-Pass.ensures.reads
 
 pub returns-clause-reads : goal.returns-clause-reads
 returns-clause-reads g c = λ f h.

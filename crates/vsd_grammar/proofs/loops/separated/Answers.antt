@@ -21,5 +21,5 @@ items-preserved g c = λ f p h k.
 
 pub returns : goal.returns
 returns g c = λ f p h k.
-    stops_when_full f c.args.many p c.args.most (items f c.args.many p c.args.most c.args.cursor.now) c.items.found c.items.cursor c.peek.result c.first.result c.unwrap_or.result c.refuse.result c.items.cursor
-    (c.items.invariant f p h k) (omega arith) c.peek.ensures (h c.peek.result c.first.result c.first.ensures) c.unwrap_or.ensures c.refuse.ensures
+    stops_when_full f c.args.many p c.args.most (items f c.args.many p c.args.most c.args.cursor.now) c.items.found c.items.cursor c.class.result c.bytes.result.now c.first.result c.unwrap_or.result c.refuse.result c.items.cursor
+    (c.items.invariant f p h k) (omega arith) c.class.ensures c.bytes.ensures (h c.class.result c.bytes.result c.first.result c.first.ensures) c.unwrap_or.ensures c.refuse.ensures

@@ -1,4 +1,4 @@
-use Rattle.std.proofs.Common.{arith}
+use Rattle.std.proofs.Common.{◌∙◌, arith}
 use Rattle.std.proofs.lemmas.List.{length-take}
 use Rattle.vsd_outside.proofs.Known.{given_more}
 use Rattle.vsd_outside.proofs.reading.read_up_to.Goals as goal
@@ -13,5 +13,6 @@ loop-text-preserved g c = record {
       let bound = c.in_ok-read_piece.ensures.bound in
       omega (arith, length-take c.min-room.result c.deref_mut.result.now);
   piece = c.loop-text.invariant.piece;
-  never_falls = omega arith;
+  no_fault = c.in_ok-read_piece.ensures.no_fault ∙ c.loop-text.invariant.no_fault;
+  stays_sure = λ sure. c.in_ok-read_piece.ensures.stays_sure (c.loop-text.invariant.stays_sure sure);
 }

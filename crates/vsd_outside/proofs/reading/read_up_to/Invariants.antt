@@ -7,7 +7,8 @@ invariant-loop-text g l = record {
   given : g.S.Source.left l.initial.source ≡ prepend_known l.text.items (g.S.Source.left l.source);
   within : vec_len l.text ≤ l.limit;
   piece : vec_len l.piece ≡ 65536;
-  never_falls : g.S.Source.faults l.initial.source ≤ g.S.Source.faults l.source;
+  no_fault : g.S.Source.faults l.source ≡ g.S.Source.faults l.initial.source;
+  stays_sure : g.S.Source.never_fails l.initial.source → g.S.Source.never_fails l.source;
 }
 
 abbrev pub decreases-loop-text : goal.decreases-loop-text

@@ -1,4 +1,4 @@
-use Rattle.std.proofs.Common.{◌≡◌, ◌+◌, ◌-◌, ◌≤◌, length, take}
+use Rattle.std.proofs.Common.{◌≡◌, ℕ, ◌-◌, ◌≤◌, length, take}
 use Rattle.std.specs.Io.KnownBytes.{append_known}
 use Rattle.vsd_outside.proofs.writing.write_whole.Given as goal
 
@@ -6,9 +6,8 @@ abbrev pub invariant-loop-at : goal.invariant-loop-at
 invariant-loop-at g l = record {
   taken : g.K.Sink.taken l.sink ≡ append_known (g.K.Sink.taken l.initial.sink) (take l.at l.bytes);
   within : l.at ≤ length l.bytes;
-  never_falls : g.K.Sink.faults l.initial.sink ≤ g.K.Sink.faults l.sink;
-  sure : length l.bytes ≤ g.K.Sink.room l.initial.sink → g.K.Sink.faults l.sink ≡ g.K.Sink.faults l.initial.sink;
-  room_left : g.K.Sink.room l.initial.sink ≤ g.K.Sink.room l.sink + l.at;
+  no_fault : g.K.Sink.faults l.sink ≡ g.K.Sink.faults l.initial.sink;
+  room_left : (size : ℕ) → g.K.Sink.has_room l.initial.sink size → g.K.Sink.has_room l.sink (size - l.at);
 }
 
 abbrev pub decreases-loop-at : goal.decreases-loop-at

@@ -1,11 +1,14 @@
-use Rattle.std.proofs.Common.{◌<◌, ◌+◌, ◌∙◌, ◌∷◌, [], get_or, length, drop, sym, subst, arith}
+use Rattle.std.proofs.Common.{◌≡◌, ◌+◌, ◌∙◌, get_or, drop, Ok, sym, ap, subst, arith}
 use Rattle.std.proofs.lemmas.Bool.{lt-ltb, cond-true}
 use Rattle.std.proofs.lemmas.Result.{err_from_is_err_and}
-use Rattle.std.proofs.lemmas.List.Elements.{All-append, All-nil}
+use Rattle.std.proofs.lemmas.List.Elements.{All-nil}
 use Rattle.std.specs.Prelude.{All}
-use Rattle.vsd_text.specs.Tokens.{tokens_of, tokens_at, LiesWithin}
-use Rattle.vsd_text.proofs.Steps.{tokens_of-short, tokens_of-at_end, tokens_of-refused, tokens_of-after, tokens_of-after_separator, tokens_at-inside, gives_refusal}
-use Rattle.vsd_text.proofs.LineFeeds.{line_feeds-take}
+use Rattle.vsd_text.specs.Bytes.{is_of_class}
+use Rattle.vsd_text.specs.Tokens.{tokens_of, LiesWithin}
+use Rattle.vsd_text.specs.declared.tokens.TokenKind.TheVariants.{Word, Number, Symbol}
+use Rattle.vsd_text.proofs.ClassPieces.{letter_piece, digit_piece, symbol_piece, space_piece, space_feeds, line_feed_piece, line_feed_feeds, bad_piece}
+use Rattle.vsd_text.proofs.Reached.{Reached, after_piece, after_token, after_gap}
+use Rattle.vsd_text.proofs.Steps.{tokens_of-short, tokens_of-at_end, tokens_of-refused, gives_refusal}
 use Rattle.vsd_text.proofs.lexer.lex.Goals as goal
 
 pub returns-then-text-gt-TEXT_LIMIT-clause-exact :
@@ -23,42 +26,87 @@ loop-at-init c =
       few_lines = omega arith;
       same = rw (empty, mark) (tokens_of-short c.args.text.now (omega arith));
       inside = subst (All (LiesWithin c.args.text.now)) (sym empty) (All-nil (LiesWithin c.args.text.now));
+      few = rw empty (omega arith);
     }
 
-pub loop-at-preserved-then-is_separator : goal.loop-at-preserved-then-is_separator
-loop-at-preserved-then-is_separator c =
-    let feeds = c.line_feed-line.ensures in
-    record {
-      in_range = omega arith;
-      short = c.loop-at.invariant.short;
-      few_lines = omega (arith, feeds, line_feeds-take 1 (get_or c.args.text.now c.loop-at.at 0 ∷ []));
-      same = rw feeds (tokens_of-after_separator c.args.text.now c.loop-at.tokens.items c.loop-at.at c.loop-at.line c.loop-at.invariant.same (omega arith) (sym c.is_separator.ensures ∙ c.if-is_separator.true));
-      inside = c.loop-at.invariant.inside;
-    }
+pub loop-at-preserved-in-Letter : goal.loop-at-preserved-in-Letter
+loop-at-preserved-in-Letter c =
+    let text = c.args.text.now in
+    let at = c.loop-at.at in
+    let line = c.loop-at.line in
+    let run = c.run_at-piece in
+    let found = letter_piece line (get_or text at 0) (drop (at + 1) text) c.in-Letter.ensures ∙ ap Ok (sym run.ensures.exact) in
+    after_token text c.loop-at.tokens.items at line c.loop-at.invariant run.result run.ensures.inside found _ (Word, (ap (λ p. p.kind) run.ensures.exact, λ other. cc)) c.in_ok-push_piece-in-Letter.ensures.ok
 
-pub returns-in_err-piece-clause-exact : goal.returns-in_err-piece-clause-exact
-returns-in_err-piece-clause-exact c =
-    let passed_on = err_from_is_err_and c.from_residual.result c.from_residual.ensures.1 in
-    let reached = c.loop-at.invariant.same in
+pub loop-at-preserved-in-Digit : goal.loop-at-preserved-in-Digit
+loop-at-preserved-in-Digit c =
+    let text = c.args.text.now in
+    let at = c.loop-at.at in
+    let line = c.loop-at.line in
+    let run = c.run_at-piece-in-Digit in
+    let found = digit_piece line (get_or text at 0) (drop (at + 1) text) c.in-Digit.ensures ∙ ap Ok (sym run.ensures.exact) in
+    after_token text c.loop-at.tokens.items at line c.loop-at.invariant run.result run.ensures.inside found _ (Number, (ap (λ p. p.kind) run.ensures.exact, λ other. cc)) c.in_ok-push_piece-in-Digit.ensures.ok
+
+pub loop-at-preserved-in-Symbol : goal.loop-at-preserved-in-Symbol
+loop-at-preserved-in-Symbol c =
+    let text = c.args.text.now in
+    let at = c.loop-at.at in
+    let line = c.loop-at.line in
+    let is = c.token-piece.ensures in
+    let alone : c.token-piece.result.more ≡ 0 = ap (λ p. p.more) is in
+    let there : at + (1 + c.token-piece.result.more) ≡ at + 1 = omega arith in
+    let found = symbol_piece line (get_or text at 0) (drop (at + 1) text) c.in-Symbol.ensures ∙ ap Ok (sym is) in
+    subst (λ next. Reached text c.push_piece-in-Symbol.new.tokens.items next line) there
+    (after_token text c.loop-at.tokens.items at line c.loop-at.invariant c.token-piece.result (omega arith) found _ (Symbol _, (ap (λ p. p.kind) is, λ other. cc)) c.in_ok-push_piece-in-Symbol.ensures.ok)
+
+pub twin_at-piece-requires-clause-is_twin : goal.twin_at-piece-requires-clause-is_twin
+unfolding is_of_class
+twin_at-piece-requires-clause-is_twin c = c.in-Twin.ensures
+
+pub loop-at-preserved-in-Twin : goal.loop-at-preserved-in-Twin
+loop-at-preserved-in-Twin c =
+    let twin = c.twin_at-piece in
+    after_token c.args.text.now c.loop-at.tokens.items c.loop-at.at c.loop-at.line c.loop-at.invariant twin.result twin.ensures.inside (twin.ensures.exact c.loop-at.line) _ twin.ensures.one_line c.in_ok-push_piece-in-Twin.ensures.ok
+
+pub loop-at-preserved-in-Space : goal.loop-at-preserved-in-Space
+loop-at-preserved-in-Space c =
+    let text = c.args.text.now in
+    let at = c.loop-at.at in
+    let line = c.loop-at.line in
+    let same_line : line + 0 ≡ line = omega arith in
+    subst (Reached text c.loop-at.tokens.items (at + 1)) same_line
+    (after_gap text c.loop-at.tokens.items at line c.loop-at.invariant c.loop-at-test.true (space_piece line (get_or text at 0) (drop (at + 1) text) c.in-Space.ensures) 0 (space_feeds (get_or text at 0) c.in-Space.ensures))
+
+pub loop-at-preserved-in-LineFeed : goal.loop-at-preserved-in-LineFeed
+loop-at-preserved-in-LineFeed c =
+    let text = c.args.text.now in
+    let at = c.loop-at.at in
+    let line = c.loop-at.line in
+    after_gap text c.loop-at.tokens.items at line c.loop-at.invariant c.loop-at-test.true (line_feed_piece line (get_or text at 0) (drop (at + 1) text) c.in-LineFeed.ensures) 1 (line_feed_feeds (get_or text at 0) c.in-LineFeed.ensures)
+
+pub opened_at-requires-clause-opens : goal.opened_at-requires-clause-opens
+unfolding is_of_class
+opened_at-requires-clause-opens c = c.in-Opening.ensures
+
+pub returns-in_err-piece-in-Opening-clause-exact : goal.returns-in_err-piece-in-Opening-clause-exact
+returns-in_err-piece-in-Opening-clause-exact c =
+    let refused = c.in_err-piece-in-Opening in
+    let passed_on = err_from_is_err_and c.from_residual-in_err-piece-in-Opening.result c.from_residual-in_err-piece-in-Opening.ensures.1 in
     rw (passed_on.1, passed_on.2)
-    (gives_refusal (tokens_of c.args.text.now) c.in_err-piece.field-0.0
-    (tokens_of-refused c.args.text.now c.loop-at.tokens.items c.loop-at.at c.loop-at.line reached _ (omega arith) (sym c.in_err-piece.ensures.exact)))
+    (gives_refusal (tokens_of c.args.text.now) refused.field-0.0
+    (tokens_of-refused c.args.text.now c.loop-at.tokens.items c.loop-at.at c.loop-at.line c.loop-at.invariant.same _ c.loop-at-test.true (sym refused.ensures.exact)))
+
+pub returns-in-Bad-clause-exact : goal.returns-in-Bad-clause-exact
+returns-in-Bad-clause-exact c =
+    let text = c.args.text.now in
+    let at = c.loop-at.at in
+    let line = c.loop-at.line in
+    tokens_of-refused text c.loop-at.tokens.items at line c.loop-at.invariant.same _ c.loop-at-test.true (bad_piece line (get_or text at 0) (drop (at + 1) text) c.in-Bad.ensures)
 
 pub loop-at-preserved : goal.loop-at-preserved
 loop-at-preserved c =
-    let text = c.args.text.now in
-    let piece = c.in_ok-piece.piece in
-    let within : c.loop-at.at + piece.more < length text = c.in_ok-piece.ensures.inside in
-    let pushed = c.in_ok-push_token.ensures.ok in
-    let feeds = c.piece_line_feeds-line.ensures in
-    let found = sym c.in_ok-piece.ensures.exact in
-    record {
-      in_range = omega arith;
-      short = c.loop-at.invariant.short;
-      few_lines = omega (arith, feeds, line_feeds-take (piece.more + 1) (drop c.loop-at.at text));
-      same = rw (pushed, feeds) (tokens_of-after text c.loop-at.tokens.items c.loop-at.at c.loop-at.line c.loop-at.invariant.same piece within found);
-      inside = subst (All (LiesWithin text)) (sym pushed) (All-append (LiesWithin text) c.loop-at.tokens.items (tokens_at c.loop-at.at c.loop-at.line piece) c.loop-at.invariant.inside (tokens_at-inside text c.loop-at.at c.loop-at.line piece within found));
-    }
+    let opened = c.in_ok-piece-in-Opening in
+    after_piece c.args.text.now c.loop-at.tokens.items c.loop-at.at c.loop-at.line c.loop-at.invariant opened.piece opened.ensures.inside (sym opened.ensures.exact) _ _ c.in_ok-push_piece-in-Opening.ensures.ok c.piece_line_feeds-line.ensures
 
 pub returns-clause-exact : goal.returns-clause-exact
 returns-clause-exact c =

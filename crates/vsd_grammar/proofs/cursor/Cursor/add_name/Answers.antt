@@ -3,11 +3,11 @@ use Rattle.std.specs.List.{slice_get}
 use Rattle.vsd_terms.specs.declared.names.NamesError.{NamesError}
 use Rattle.vsd_terms.specs.Names.{AreNames, AddsName}
 use Rattle.vsd_grammar.specs.Input.{Input}
-use Rattle.vsd_grammar.specs.Grammar.{run, refusal}
+use Rattle.vsd_grammar.specs.Grammar.{run, syntax_error}
 use Rattle.vsd_grammar.specs.Productions.{number}
 use Rattle.vsd_grammar.proofs.Outcomes.{reads_refused}
-use Rattle.vsd_grammar.specs.declared.refusal.Cause.TheVariants.{TooMany}
-use Rattle.vsd_grammar.specs.declared.refusal.Counted.TheVariants as limit
+use Rattle.vsd_grammar.specs.declared.cause.Cause.TheVariants.{TooMany}
+use Rattle.vsd_grammar.specs.declared.cause.Counted.TheVariants as limit
 use Rattle.vsd_grammar.proofs.Numbers.{with_names, number_new, number_full}
 use Rattle.vsd_grammar.proofs.cursor.Cursor.add_name.Goals as goal
 
@@ -26,8 +26,8 @@ returns-in-Ok c = number_new_at c.args.self.now _ c.args.name.now c.in-Ok.number
     (λ full. no_err c.in-Ok.number _ (c.in-Ok.ensures.full.1 (subst (λ j. Contains j.state.names c.args.name.now → ⊥) (sym c.self.view_is) c.requires.new, full)))
     c.in-Ok.ensures.adds c.in-Ok.ensures.place
 
-number_full_at : (i j : Input) (name : List ℕ) → j ≡ i → (Contains i.state.names name → ⊥) → length j.state.names ≡ 2048 → run ℕ (number name) i ≡ Err (refusal j (TooMany limit.Names))
-number_full_at i j name e absent full = number_full i name absent (subst (λ k. length k.state.names ≡ 2048) e full) ∙ ap (λ k. Err (refusal k (TooMany limit.Names))) (sym e)
+number_full_at : (i j : Input) (name : List ℕ) → j ≡ i → (Contains i.state.names name → ⊥) → length j.state.names ≡ 2048 → run ℕ (number name) i ≡ Err (syntax_error j (TooMany limit.Names))
+number_full_at i j name e absent full = number_full i name absent (subst (λ k. length k.state.names ≡ 2048) e full) ∙ ap (λ k. Err (syntax_error k (TooMany limit.Names))) (sym e)
 
 pub returns-in-Err-Full : goal.returns-in-Err-Full
 returns-in-Err-Full c =

@@ -1,4 +1,4 @@
-use Rattle.std.proofs.Common.{ℕ, ◌≤◌, refl, subst}
+use Rattle.std.proofs.Common.{◌≤◌, refl, subst}
 use Rattle.vsd_rule.specs.declared.key.Key.{Key}
 use Rattle.vsd_table.proofs.BucketWords.{may_load_bucket}
 use Rattle.vsd_table.proofs.Seats.{becomes}

@@ -1,4 +1,4 @@
-use Rattle.std.proofs.Common.{sym, refl}
+use Rattle.std.proofs.Common.{refl}
 use Rattle.vsd_table.proofs.RowWords.{may_set_handle}
 use Rattle.vsd_table.proofs.Seats.{becomes}
 use Rattle.vsd_table.proofs.seated.Seated.set_handle.Goals as goal

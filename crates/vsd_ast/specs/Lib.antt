@@ -1,0 +1,4 @@
+-- What contracts over declarations and scripts cite.
+pub mod Hierarchy
+pub mod Lookup
+pub mod WellFormed

@@ -1,0 +1,8 @@
+-- The declarations below this rank have their rows.
+use Rattle.std.proofs.Common.{◌+◌, ◌*◌}
+use Rattle.vsd_roots.specs.Order.{TabulatesBelow}
+use Rattle.vsd_roots.specs.Slots.{IsRoot}
+use Rattle.vsd_roots.proofs.rooting.roots_depth.Given as goal
+
+abbrev pub invariant-loop-at : goal.invariant-loop-at
+invariant-loop-at l = TabulatesBelow l.h.decls.now l.h.depths.now (1024 * l.depth + l.at) (IsRoot l.h.decls.now) l.roots

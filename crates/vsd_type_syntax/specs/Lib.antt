@@ -1,0 +1,4 @@
+-- What contracts of this crate cite.
+pub mod Starts
+pub mod Types
+pub mod More

@@ -1,0 +1,19 @@
+//! What holds of types. Each is a function that does nothing and ensures its law.
+ghost use Rattle.std.specs.Prelude.{◌≡◌, Bool, Option, None};
+ghost use Rattle.vsd_grammar.specs.Grammar.{Decides, Derives, tried};
+ghost use Rattle.vsd_grammar.specs.Input.{Input};
+ghost use Rattle.vsd_grammar.specs.declared.token_class.TokenClass.{TokenClass};
+ghost use Rattle.vsd_terms.specs.declared.term.Term.{Term};
+ghost use Rattle.vsd_type_syntax.specs.Types.{Rules, written, written_rest, first_cause};
+
+/// Types are read in one way, whatever follows them.
+pub fn types_are_decided()
+    ensures whole { (rules : Rules) (only_named : Bool) (F : TokenClass → Bool) → Decides _ (written rules only_named) F }
+    ensures rest { (rules : Rules) (F : TokenClass → Bool) → Decides _ (written_rest rules) F }
+{}
+
+/// No token that begins a type is refused by the first test of a list of types.
+pub fn first_test_accepts()
+    ensures { (rules : Rules) (only_named : Bool) (i : Input) (x : Term) (j : Input)
+        → Derives _ (written rules only_named) i x j → tried (first_cause only_named) i ≡ None }
+{}
