@@ -10,7 +10,7 @@ use Rattle.vsd_rule.specs.declared.row_view.RowView.{RowView}
 use Rattle.vsd_rule.specs.declared.row_view.Keeping.TheVariants.{Elsewhere, Unlinked}
 use Rattle.vsd_rule.specs.declared.view.View.{View}
 use Rattle.vsd_rule.specs.Evidence.{HasEvidence}
-use Rattle.vsd_rule.specs.RowSteps.{keeps_row, after_put_bucket, after_to_dispatch, after_to_resolve, after_free, after_count, came_out}
+use Rattle.vsd_rule.specs.RowSteps.{keeps_row, after_put_bucket, after_to_dispatch, after_to_resolve, after_free, after_count}
 use Rattle.vsd_table.specs.declared.seated.Seated.{Seated}
 use Rattle.vsd_table.specs.Seating.{view_of}
 use Rattle.vsd_rows.specs.declared.limbo.Limbo.{Limbo}

@@ -1,2 +1,4 @@
+-- The lemmas.
 pub mod Leaving
 pub mod PartsMade
+pub mod Stubbing

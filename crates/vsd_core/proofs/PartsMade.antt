@@ -1,5 +1,5 @@
 -- The programs of the parts of a call, made of what their callees make.
-use Rattle.std.proofs.Common.{◌≡◌, ◌≢◌, ℕ, ◌+◌, Bool, true, false, ◌&&◌, nat_le, nat_eq, Option, Some, None, refl, sym, ◌∙◌, ap, subst, ◌<◌}
+use Rattle.std.proofs.Common.{◌≡◌, ◌≢◌, ℕ, ◌+◌, Bool, true, false, ◌&&◌, nat_le, Option, Some, None, refl, sym, ap, subst, ◌<◌}
 use Rattle.std.proofs.lemmas.Bool.{lt-leb}
 use Rattle.vsd_words.specs.declared.handle.Handle.{Handle}
 use Rattle.vsd_words.specs.declared.cell_word.CellWord.{CellWord}

@@ -4,7 +4,9 @@
 mod caching;
 mod installing;
 mod patching;
+mod stubs;
 
 pub use caching::cache;
 pub use installing::install;
 pub use patching::patch;
+pub use stubs::{CellLook, stub};

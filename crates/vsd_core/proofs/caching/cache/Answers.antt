@@ -1,4 +1,4 @@
-use Rattle.std.proofs.Common.{◌≡◌, ℕ, None, Some, length, sym, ◌∙◌, ap, arith}
+use Rattle.std.proofs.Common.{◌≡◌, None, Some, length, sym, ◌∙◌, ap, arith}
 use Rattle.vsd_table.specs.Seating.{view_of, key_of}
 use Rattle.vsd_rows.proofs.Makes.{answers, makes_none}
 use Rattle.vsd_core.proofs.Leaving.{goes_not, goes_on, claims_go, claims_limbo, same_length, evidence_stays}

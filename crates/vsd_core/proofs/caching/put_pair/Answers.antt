@@ -1,4 +1,4 @@
-use Rattle.std.proofs.Common.{◌≡◌, ℕ, None, Some, length, sym, ◌∙◌, ap, arith}
+use Rattle.std.proofs.Common.{◌≡◌, None, Some, length, ◌∙◌, ap, arith}
 use Rattle.vsd_rule.specs.declared.view.View.{View}
 use Rattle.vsd_table.specs.Seating.{view_of, key_of}
 use Rattle.vsd_rows.proofs.Makes.{answers, makes_none}

@@ -1,4 +1,4 @@
-use Rattle.std.proofs.Common.{◌≡◌, ℕ, true, false, None, Some, sym, ◌∙◌}
+use Rattle.std.proofs.Common.{None, Some, sym, ◌∙◌}
 use Rattle.vsd_table.specs.Seating.{view_of, key_of}
 use Rattle.vsd_rows.proofs.Makes.{answers}
 use Rattle.vsd_core.proofs.Leaving.{goes_not, goes_on, claims_go, evidence_stays}

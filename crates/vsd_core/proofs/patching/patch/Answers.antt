@@ -1,6 +1,5 @@
-use Rattle.std.proofs.Common.{◌≡◌, ◌<◌, ◌≤◌, ℕ, Bool, true, false, ◌&&◌, nat_le, length, sym, ◌∙◌, ap, subst, le-leb, arith}
+use Rattle.std.proofs.Common.{◌<◌, ◌≤◌, Bool, ◌&&◌, sym, ◌∙◌, ap, subst, le-leb, arith}
 use Rattle.vsd_rule.specs.declared.sizes.Sizes.{Sizes}
-use Rattle.vsd_rule.specs.declared.view.View.{View}
 use Rattle.vsd_table.specs.Seating.{view_of, key_of}
 use Rattle.vsd_trails.specs.RowTrails.{has_room}
 use Rattle.vsd_core.proofs.Leaving.{goes_on, count_goes, same_length}
