@@ -2,3 +2,4 @@
 pub mod Leaving
 pub mod PartsMade
 pub mod Stubbing
+pub mod Walks

@@ -6,3 +6,8 @@ use Rattle.vsd_rule.specs.declared.view.View.{View}
 pub record Goes (old new : View) : Type 0 where
   pub pinned : new.rows.pinned ≡ old.rows.pinned
   pub handles : new.handles ≡ old.handles
+
+-- the pin, and the caller's own handle words
+pub record Stays (old new : View) : Type 0 where
+  pub pinned : new.rows.pinned ≡ old.rows.pinned
+  pub owned : new.handles.owned ≡ old.handles.owned

@@ -5,8 +5,10 @@ mod caching;
 mod installing;
 mod patching;
 mod stubs;
+mod walking;
 
 pub use caching::cache;
 pub use installing::install;
 pub use patching::patch;
 pub use stubs::{CellLook, stub};
+pub use walking::walk;
