@@ -3,3 +3,4 @@ pub mod Leaving
 pub mod PartsMade
 pub mod Stubbing
 pub mod Walks
+pub mod CallsMade

@@ -2,12 +2,14 @@
 #![tactic(auto)]
 
 mod caching;
+mod calling;
 mod installing;
 mod patching;
 mod stubs;
 mod walking;
 
 pub use caching::cache;
+pub use calling::call;
 pub use installing::install;
 pub use patching::patch;
 pub use stubs::{CellLook, stub};
