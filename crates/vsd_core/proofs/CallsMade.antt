@@ -1,5 +1,5 @@
 -- The parts of a call, put together.
-use Rattle.std.proofs.Common.{◌≡◌, ℕ, ◌<◌, Option, Some, None, Result, Ok, Err, IfOk, refl, sym, ◌∙◌, ap, subst}
+use Rattle.std.proofs.Common.{◌≡◌, ℕ, ◌<◌, Option, Some, Result, Ok, Err, IfOk, refl, sym, ◌∙◌, ap, subst}
 use Rattle.vsd_words.specs.declared.handle.Handle.{Handle}
 use Rattle.vsd_words.specs.declared.cell_word.CellWord.{CellWord}
 use Rattle.vsd_words.specs.declared.cell_word.CellWord.TheVariants.{Lookup, Resolve, Dispatch}
@@ -21,7 +21,7 @@ use Rattle.vsd_trails.specs.declared.answers.Swept.{Swept}
 use Rattle.vsd_trails.specs.declared.answers.Swept.TheVariants as swept
 use Rattle.vsd_trails.specs.Programs.{Program, done, bind}
 use Rattle.vsd_trails.specs.RowTrails.{pinning, unpinning, reading_cell, sweeping}
-use Rattle.vsd_trails.specs.CallTrails.{Stubbed, stub_hit, stub_miss, by_stub, by_bucket, seen_by, finding, installing, walking, resolving_by, stubbing, answering_by, answering, calling}
+use Rattle.vsd_trails.specs.CallTrails.{stub_hit, stub_miss, by_stub, by_bucket, seen_by, finding, installing, walking, resolving_by, stubbing, answering_by, answering, calling}
 use Rattle.vsd_rows.specs.Makes.{Makes}
 use Rattle.vsd_rows.specs.Hands.{HasSeen, Sweeps, Pins}
 use Rattle.vsd_rows.proofs.Makes.{joined, then_makes, makes_none}

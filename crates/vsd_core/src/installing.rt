@@ -17,7 +17,7 @@ use vsd_words::{CellWord, Handle};
 
 /// Where the site's cell was loaded as Lookup and a row is free, fills the row with the pair and tries to
 /// install it in the cell. The row is given up where the exchange was lost.
-pub fn install(
+pub(crate) fn install(
     table: &Shared,
     hand: &mut Hand,
     site: u16,

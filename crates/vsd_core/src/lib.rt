@@ -1,4 +1,6 @@
-//! Calls over the shared table. So far: the parts of a call that change what cells and buckets name.
+//! Interface calls over the shared table, answered by many callers at once. A call pins its caller, looks
+//! at the site's cell and at the bucket of the pair of token and handle, walks the type's tables where
+//! neither holds the pair, puts what it found where the next call finds it, unpins and sweeps.
 #![tactic(auto)]
 
 mod caching;
@@ -8,9 +10,4 @@ mod patching;
 mod stubs;
 mod walking;
 
-pub use caching::cache;
 pub use calling::call;
-pub use installing::install;
-pub use patching::patch;
-pub use stubs::{CellLook, stub};
-pub use walking::walk;

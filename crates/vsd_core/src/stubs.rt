@@ -18,7 +18,7 @@ use vsd_words::{CellWord, Handle};
 
 /// What a call's look at its cell finds.
 #[derive(Clone, Copy, PartialEq, Eq, Debug)]
-pub enum CellLook {
+pub(crate) enum CellLook {
     /// The row that the cell dispatches through has the handle, and this target.
     Hit(u32),
     /// It has this other handle, or the cell dispatches through no row.
@@ -27,7 +27,7 @@ pub enum CellLook {
 
 /// On Dispatch loads the row's handle, and where it is the call's the row's target, of which the caller
 /// then has evidence. Where it is another, counts the miss and may patch the cell.
-pub fn stub(
+pub(crate) fn stub(
     table: &Shared,
     hand: &mut Hand,
     site: u16,

@@ -1,4 +1,4 @@
-use Rattle.std.proofs.Common.{◌≡◌, ◌<◌, ℕ, sym, subst}
+use Rattle.std.proofs.Common.{◌<◌, ℕ, sym, subst}
 use Rattle.vsd_table.specs.Seating.{view_of, key_of}
 use Rattle.vsd_core.proofs.CallsMade.{answers_hit, answers_miss, goes_stays, stays_on}
 use Rattle.vsd_core.proofs.calling.answer.Goals as goal

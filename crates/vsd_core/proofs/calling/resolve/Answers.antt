@@ -1,4 +1,3 @@
-use Rattle.std.proofs.Common.{◌≡◌, ◌<◌, ℕ, sym, subst}
 use Rattle.vsd_table.specs.Seating.{view_of, key_of}
 use Rattle.vsd_core.proofs.Leaving.{evidence_stays}
 use Rattle.vsd_core.proofs.CallsMade.{resolves_hit, resolves_other, resolves_empty, finds_go, goes_stays, stays_on}

@@ -1,9 +1,5 @@
-use Rattle.std.proofs.Common.{◌≡◌, ℕ, ◌<◌, Result, Ok, Err, sym, ◌∙◌, ap, subst, rules}
-use Rattle.vsd_rule.specs.Lists.{target_of}
-use Rattle.vsd_rule.specs.Evidence.{HasEvidence}
+use Rattle.std.proofs.Common.{◌≡◌, Err, sym, rules}
 use Rattle.vsd_table.specs.Seating.{view_of, key_of}
-use Rattle.vsd_trails.specs.declared.answers.Answer.{Answer}
-use Rattle.vsd_trails.specs.declared.answers.Unloaded.{Unloaded}
 use Rattle.vsd_rows.proofs.Makes.{answers}
 use Rattle.vsd_core.proofs.Leaving.{evidence_stays}
 use Rattle.vsd_core.proofs.Walks.{walks, walks_not, asked_evidence, entry_is, type_stays, stays_then}
