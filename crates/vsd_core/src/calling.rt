@@ -1,5 +1,5 @@
 //! A call: pin, look at the cell and at the bucket, walk where neither holds the pair, unpin and sweep.
-ghost use Rattle.std.specs.Prelude.{◌≡◌, ◌<◌, ℕ, Some, IfOk};
+ghost use Rattle.std.specs.Prelude.{◌≡◌, ◌<◌, ℕ, Some, IfOk, IsOk};
 ghost use Rattle.vsd_words.specs.declared.cell_word.CellWord.TheVariants.{Dispatch};
 ghost use Rattle.vsd_words.specs.Handle.{HandleInRange};
 ghost use Rattle.vsd_rule.specs.Layout.{handle_rows};
@@ -11,7 +11,7 @@ ghost use Rattle.vsd_table.specs.Seating.{key_of, view_of, Belongs};
 ghost use Rattle.vsd_trails.specs.CallTrails.{answering, calling};
 ghost use Rattle.vsd_rows.specs.Makes.{Makes};
 ghost use Rattle.vsd_rows.specs.Hands.{HasSeen};
-ghost use Rattle.vsd_core.specs.Parts.{Stays, resolving};
+ghost use Rattle.vsd_core.specs.Parts.{IsSure, Stays, resolving};
 
 use crate::installing::install;
 use crate::stubs::{CellLook, stub};
@@ -45,6 +45,7 @@ pub fn call<R: Resolver>(
     requires row { h.row < handle_rows (key_of table.now).sizes }
     requires some { 0 < h.generation }
     ensures trail { Makes hand.old.seated hand.new.seated (calling (key_of table.now) site h) result }
+    ensures complete { IsSure (view_of hand.old.seated) h → IsOk result }
     ensures evidence { IfOk result (λ a. HasEvidence (view_of hand.new.seated) h token a.target) }
     ensures world { IfOk result (λ a. (number : ℕ) → Knows (view_of hand.new.seated).handles h number
         → a.target ≡ target_of (key_of table.now) number token) }
@@ -84,6 +85,7 @@ fn answer<R: Resolver>(
     requires in_table { (row : ℕ) → cell ≡ Dispatch row → row < (key_of table.now).sizes.rows }
     requires named { (row : ℕ) → cell ≡ Dispatch row → HasSeen (view_of hand.old.seated) row (Some site) nothing_known }
     ensures trail { Makes hand.old.seated hand.new.seated (answering (key_of table.now) site h cell) result }
+    ensures complete { IsSure (view_of hand.old.seated) h → IsOk result }
     ensures evidence { IfOk result (λ a. HasEvidence (view_of hand.new.seated) h token a.target) }
     ensures stays { Stays (view_of hand.old.seated) (view_of hand.new.seated) }
     ensures seat { Belongs table.now hand.new.seated }
@@ -120,6 +122,7 @@ fn resolve<R: Resolver>(
     requires row { h.row < handle_rows (key_of table.now).sizes }
     requires some { 0 < h.generation }
     ensures trail { Makes hand.old.seated hand.new.seated (resolving (key_of table.now) site h cell expected) result }
+    ensures complete { IsSure (view_of hand.old.seated) h → IsOk result }
     ensures evidence { IfOk result (λ a. HasEvidence (view_of hand.new.seated) h token a.target) }
     ensures stays { Stays (view_of hand.old.seated) (view_of hand.new.seated) }
     ensures seat { Belongs table.now hand.new.seated }

@@ -1,5 +1,5 @@
 //! The part of a call that finds its target in the type's tables.
-ghost use Rattle.std.specs.Prelude.{◌≡◌, ◌<◌, IfOk};
+ghost use Rattle.std.specs.Prelude.{◌≡◌, ◌<◌, IfOk, IsOk};
 ghost use Rattle.vsd_words.specs.Handle.{HandleInRange};
 ghost use Rattle.vsd_rule.specs.Layout.{handle_rows};
 ghost use Rattle.vsd_rule.specs.Lists.{site_token};
@@ -7,7 +7,7 @@ ghost use Rattle.vsd_rule.specs.Evidence.{HasEvidence};
 ghost use Rattle.vsd_table.specs.Seating.{key_of, view_of, Belongs};
 ghost use Rattle.vsd_trails.specs.CallTrails.{walking};
 ghost use Rattle.vsd_rows.specs.Makes.{Makes};
-ghost use Rattle.vsd_core.specs.Parts.{Stays};
+ghost use Rattle.vsd_core.specs.Parts.{IsSure, Stays};
 
 use crate::caching::cache;
 use crate::installing::install;
@@ -41,6 +41,7 @@ pub(crate) fn walk<R: Resolver>(
     requires row { h.row < handle_rows (key_of table.now).sizes }
     requires some { 0 < h.generation }
     ensures trail { Makes hand.old.seated hand.new.seated (walking (key_of table.now) site h cell seen) result }
+    ensures complete { IsSure (view_of hand.old.seated) h → IsOk result }
     ensures evidence { IfOk result (λ a. HasEvidence (view_of hand.new.seated) h token a.target) }
     ensures stays { Stays (view_of hand.old.seated) (view_of hand.new.seated) }
     ensures seat { Belongs table.now hand.new.seated }

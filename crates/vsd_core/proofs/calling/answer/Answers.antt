@@ -1,4 +1,7 @@
 use Rattle.std.proofs.Common.{◌<◌, ℕ, sym, subst}
+use Rattle.std.proofs.Common.{ap}
+use Rattle.vsd_rule.specs.declared.handle_view.HandleView.{HandleView}
+use Rattle.vsd_core.proofs.Walks.{sure_on}
 use Rattle.vsd_table.specs.Seating.{view_of, key_of}
 use Rattle.vsd_core.proofs.CallsMade.{answers_hit, answers_miss, goes_stays, stays_on}
 use Rattle.vsd_core.proofs.calling.answer.Goals as goal
@@ -20,3 +23,8 @@ returns-in-Miss-clause-stays g c =
     let old = view_of c.args.hand.now.seated in
     let one = view_of c.stub.new.hand.seated in
     stays_on old one (view_of c.resolve.new.hand.seated) (goes_stays old one c.stub.ensures.goes) c.resolve.ensures.stays
+
+pub returns-in-Miss-clause-complete : goal.returns-in-Miss-clause-complete
+returns-in-Miss-clause-complete g c = λ sure.
+    let stays = c.stub.ensures.trail.stays in
+    c.resolve.ensures.complete (sure_on (view_of c.args.hand.now.seated) (view_of c.stub.new.hand.seated) c.args.h stays.key stays.who (ap (λ (n : HandleView). n.owned) c.stub.ensures.goes.handles) sure)

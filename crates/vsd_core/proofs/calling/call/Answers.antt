@@ -5,6 +5,7 @@ use Rattle.vsd_rule.specs.declared.view.View.{View}
 use Rattle.vsd_rule.specs.Lists.{target_of}
 use Rattle.vsd_rule.specs.Facts.{Knows}
 use Rattle.vsd_rule.specs.Evidence.{HasEvidence}
+use Rattle.vsd_core.proofs.Walks.{sure_on}
 use Rattle.vsd_table.specs.Seating.{view_of, key_of}
 use Rattle.vsd_trails.specs.declared.answers.Answer.{Answer}
 use Rattle.vsd_core.proofs.Leaving.{evidence_stays}
@@ -62,3 +63,15 @@ returns-clause-owned g c =
     ∙ (c.answer-answer.ensures.stays.owned
     ∙ (ap (λ (n : HandleView). n.owned) loaded.handles
     ∙ pins_owned c.args.hand.now.seated c.pin.new.hand.seated (Call c.args.site c.args.h) c.pin.ensures.step)))
+
+pub returns-clause-complete : goal.returns-clause-complete
+returns-clause-complete g c = λ sure.
+    let old = view_of c.args.hand.now.seated in
+    let one = view_of c.pin.new.hand.seated in
+    let two = view_of c.read-cell.new.hand.seated in
+    let first = c.pin.ensures.trail.stays in
+    let second = c.read-cell.ensures.trail.stays in
+    let loaded = reads_go one two c.args.site c.read-cell.result c.read-cell.ensures.step.view in
+    c.answer-answer.ensures.complete
+    (sure_on one two c.args.h second.key second.who (ap (λ (n : HandleView). n.owned) loaded.handles)
+    (sure_on old one c.args.h first.key first.who (pins_owned c.args.hand.now.seated c.pin.new.hand.seated (Call c.args.site c.args.h) c.pin.ensures.step) sure))

@@ -1,3 +1,6 @@
+use Rattle.std.proofs.Common.{ap}
+use Rattle.vsd_rule.specs.declared.handle_view.HandleView.{HandleView}
+use Rattle.vsd_core.proofs.Walks.{sure_on}
 use Rattle.vsd_table.specs.Seating.{view_of, key_of}
 use Rattle.vsd_core.proofs.Leaving.{evidence_stays}
 use Rattle.vsd_core.proofs.CallsMade.{resolves_hit, resolves_other, resolves_empty, finds_go, goes_stays, stays_on}
@@ -36,3 +39,19 @@ returns-in-Empty-clause-stays g c =
     let old = view_of c.args.hand.now.seated in
     let one = view_of c.find.new.hand.seated in
     stays_on old one (view_of c.walk-in-Empty.new.hand.seated) (goes_stays old one (finds_go old one c.find.ensures.changes)) c.walk-in-Empty.ensures.stays
+
+pub returns-in-Other-clause-complete : goal.returns-in-Other-clause-complete
+returns-in-Other-clause-complete g c = λ sure.
+    let old = view_of c.args.hand.now.seated in
+    let one = view_of c.find.new.hand.seated in
+    let goes = finds_go old one c.find.ensures.changes in
+    let stays = c.find.ensures.trail.stays in
+    c.walk.ensures.complete (sure_on old one c.args.h stays.key stays.who (ap (λ (n : HandleView). n.owned) goes.handles) sure)
+
+pub returns-in-Empty-clause-complete : goal.returns-in-Empty-clause-complete
+returns-in-Empty-clause-complete g c = λ sure.
+    let old = view_of c.args.hand.now.seated in
+    let one = view_of c.find.new.hand.seated in
+    let goes = finds_go old one c.find.ensures.changes in
+    let stays = c.find.ensures.trail.stays in
+    c.walk-in-Empty.ensures.complete (sure_on old one c.args.h stays.key stays.who (ap (λ (n : HandleView). n.owned) goes.handles) sure)

@@ -2,7 +2,7 @@ use Rattle.std.proofs.Common.{◌≡◌, Err, sym, rules}
 use Rattle.vsd_table.specs.Seating.{view_of, key_of}
 use Rattle.vsd_rows.proofs.Makes.{answers}
 use Rattle.vsd_core.proofs.Leaving.{evidence_stays}
-use Rattle.vsd_core.proofs.Walks.{walks, walks_not, asked_evidence, entry_is, type_stays, stays_then}
+use Rattle.vsd_core.proofs.Walks.{sure_ok, err_not_ok, walks, walks_not, asked_evidence, entry_is, type_stays, stays_then}
 use Rattle.vsd_core.proofs.walking.walk.Goals as goal
 
 pub returns-in_err-number-clause-trail : goal.returns-in_err-number-clause-trail
@@ -48,3 +48,8 @@ returns-clause-stays g c =
     let one = view_of c.type_of.new.hand.seated in
     let two = view_of c.cache.new.hand.seated in
     stays_then old two (view_of c.install.new.hand.seated) (stays_then old one two (type_stays c.args.hand.now.seated c.type_of.new.hand.seated c.args.h c.type_of.result c.type_of.ensures.loads) c.cache.ensures.goes) c.install.ensures.goes
+
+pub returns-in_err-number-clause-complete : goal.returns-in_err-number-clause-complete
+returns-in_err-number-clause-complete g c = λ sure.
+    absurd (err_not_ok c.type_of.result c.in_err-number.field-0.0 c.in_err-number.was
+    (sure_ok (view_of c.args.hand.now.seated) (key_of c.args.table.now) c.args.h c.type_of.result c.requires.seat.key c.type_of.ensures.own c.type_of.ensures.host sure))
