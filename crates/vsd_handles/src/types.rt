@@ -28,6 +28,9 @@ pub fn type_of(table: &Shared, hand: &mut Hand, h: Handle) -> Result<u16, Unload
     ensures learnt { IfOk result (Knows (view_of hand.new.seated).handles h) }
     ensures known { (number : ℕ) → Knows (view_of hand.old.seated).handles h number → IfOk result (λ n. n ≡ number) }
 
+    // A generation above 0 has a type of the world.
+    ensures in_world { 0 < h.generation → IfOk result (λ n. n < (key_of table.now).world.types) }
+
     // Nobody else changes the caller's own rows, and nobody a host's.
     ensures own { IsOwn (view_of hand.old.seated) h.row →
         result ≡ type_by h (own_row_word (view_of hand.old.seated) h.row) }

@@ -1,4 +1,5 @@
-use Rattle.std.proofs.Common.{◌≡◌, ℕ, Result, refl, ap, ◌∙◌, subst, sym, rules}
+use Rattle.std.proofs.Common.{◌≡◌, ◌<◌, ℕ, Result, refl, ap, ◌∙◌, subst, sym, rules}
+use Rattle.vsd_rule.specs.declared.key.Key.{Key}
 use Rattle.vsd_rule.specs.Handles.{handle}
 use Rattle.vsd_rule.specs.Facts.{Knows}
 use Rattle.vsd_table.specs.Seating.{view_of}
@@ -36,3 +37,8 @@ returns-then-found-h-clause-known c =
     λ number knows.
     c.handle_word-found.ensures.finds.known number
     (subst (λ (g : ℕ). Knows handles (handle c.args.h.row g) number) (sym c.if-found-h.true) knows)
+
+pub returns-then-found-h-clause-in_world : goal.returns-then-found-h-clause-in_world
+returns-then-found-h-clause-in_world c = λ some.
+    subst (λ (k : Key). c.handle_word-found.result.number < k.world.types) c.requires.seat.key
+    (c.handle_word-found.ensures.finds.typed (subst (λ (g : ℕ). 0 < g) (sym c.if-found-h.true) some))
