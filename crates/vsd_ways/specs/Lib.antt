@@ -1,0 +1,6 @@
+-- What contracts of this crate cite.
+pub mod Found
+pub mod Known
+pub mod Leads
+pub mod Order
+pub mod Ways

@@ -1,0 +1,20 @@
+//! Which interfaces a class has, without listing them.
+//!
+//! A class has the interfaces that it and the classes above it name, and those that these require, at their arguments
+//! (ECMA-335, II.12.1). An open class can have two to the number of declarations of them, so they are never listed.
+//! Instead one interface, the owner, is asked for. From the declarations that require nothing upward, each interface gets
+//! its ways: what its arguments have to be for it to lead to the owner. What is known of an argument is a part of the
+//! owner, or nothing. A class then has the owner where what it names meets a way, which is compared along its chain
+//! without making the inherited terms.
+#![tactic(auto)]
+
+mod binding;
+mod having;
+mod known;
+mod order;
+mod requiring;
+
+pub use having::has_interface;
+pub use known::{Known, Ways};
+pub use order::upward_order;
+pub use requiring::all_ways;
