@@ -1,5 +1,5 @@
 //! A call: pin, look at the cell and at the bucket, walk where neither holds the pair, unpin and sweep.
-ghost use Rattle.std.specs.Prelude.{◌≡◌, ◌<◌, ℕ, Some, IfOk, IsOk};
+ghost use Rattle.std.specs.Prelude.{◌≡◌, ◌+◌, ◌<◌, ℕ, Some, IfOk, IsOk};
 ghost use Rattle.vsd_words.specs.declared.cell_word.CellWord.TheVariants.{Dispatch};
 ghost use Rattle.vsd_words.specs.Handle.{HandleInRange};
 ghost use Rattle.vsd_rule.specs.Layout.{handle_rows};
@@ -11,6 +11,8 @@ ghost use Rattle.vsd_table.specs.Seating.{key_of, view_of, Belongs};
 ghost use Rattle.vsd_trails.specs.CallTrails.{answering, calling};
 ghost use Rattle.vsd_rows.specs.Makes.{Makes};
 ghost use Rattle.vsd_rows.specs.Hands.{HasSeen};
+ghost use Rattle.vsd_trails.specs.Operations.{called};
+ghost use Rattle.vsd_core.specs.Logged.{LogsOne};
 ghost use Rattle.vsd_core.specs.Parts.{IsSure, Stays, resolving};
 
 use crate::installing::install;
@@ -45,6 +47,8 @@ pub fn call<R: Resolver>(
     requires row { h.row < handle_rows (key_of table.now).sizes }
     requires some { 0 < h.generation }
     ensures trail { Makes hand.old.seated hand.new.seated (calling (key_of table.now) site h) result }
+    ensures logged { LogsOne (key_of table.now) hand.old.seated hand.new.seated (called site h result)
+        (52 + (key_of table.now).sizes.callers) }
     ensures complete { IsSure (view_of hand.old.seated) h → IsOk result }
     ensures evidence { IfOk result (λ a. HasEvidence (view_of hand.new.seated) h token a.target) }
     ensures world { IfOk result (λ a. (number : ℕ) → Knows (view_of hand.new.seated).handles h number

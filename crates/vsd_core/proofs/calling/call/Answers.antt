@@ -9,6 +9,7 @@ use Rattle.vsd_core.proofs.Walks.{sure_on}
 use Rattle.vsd_table.specs.Seating.{view_of, key_of}
 use Rattle.vsd_trails.specs.declared.answers.Answer.{Answer}
 use Rattle.vsd_core.proofs.Leaving.{evidence_stays}
+use Rattle.vsd_core.proofs.Logging.{logs_call}
 use Rattle.vsd_core.proofs.CallsMade.{calls, cell_named, sweeps_go, reads_go, pins_owned, told_on, agrees_on}
 use Rattle.vsd_core.proofs.calling.call.Goals as goal
 
@@ -75,3 +76,9 @@ returns-clause-complete g c = λ sure.
     c.answer-answer.ensures.complete
     (sure_on one two c.args.h second.key second.who (ap (λ (n : HandleView). n.owned) loaded.handles)
     (sure_on old one c.args.h first.key first.who (pins_owned c.args.hand.now.seated c.pin.new.hand.seated (Call c.args.site c.args.h) c.pin.ensures.step) sure))
+
+pub returns-clause-logged : goal.returns-clause-logged
+returns-clause-logged g c =
+    logs_call (key_of c.args.table.now) c.args.site c.args.h c.args.hand.now.seated c.sweep.new.hand.seated c.answer-answer.result c.requires.seat.key
+    (calls (key_of c.args.table.now) c.args.site c.args.h _ _ _ _ _ _ c.read-cell.result c.answer-answer.result c.sweep.result
+    c.pin.ensures.trail c.read-cell.ensures.trail c.answer-answer.ensures.trail c.unpin.ensures.trail c.sweep.ensures.trail)
