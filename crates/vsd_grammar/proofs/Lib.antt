@@ -16,6 +16,3 @@ pub mod ListSteps
 pub mod TurnSteps
 pub mod Pairs
 pub mod Deciding
-pub mod Spelling
-pub mod Counts
-pub mod Behaving

@@ -2,4 +2,3 @@
 pub mod Starts
 pub mod Types
 pub mod More
-pub mod Behaving
