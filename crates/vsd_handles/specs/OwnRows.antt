@@ -1,5 +1,5 @@
 -- A caller's own 64 rows of handles, and what it knows of their words.
-use Rattle.std.specs.Prelude.{◌≡◌, ℕ, ◌+◌, ◌&&◌, Bool, true, not, nat_lt, Some, position}
+use Rattle.std.specs.Prelude.{◌≡◌, ◌⊎◌, ◌<◌, ℕ, ◌+◌, ◌&&◌, Bool, true, not, nat_lt, Some, position}
 use Rattle.vsd_words.specs.declared.handle.Handle.{Handle}
 use Rattle.vsd_words.specs.declared.handle_word.HandleWord.{HandleWord}
 use Rattle.vsd_words.specs.Handle.{HandleInRange}
@@ -21,6 +21,10 @@ own_row_word v row = owned_word v.handles (own_index v row)
 pub record IsOwned (v : View) (h : Handle) : Type 0 where
   pub row : IsOwn v h.row
   pub live : is_live_at h.generation (own_row_word v h.row) ≡ true
+
+-- the handle is a host's, or the caller owns it
+abbrev pub IsSure : View → Handle → Type 0
+IsSure v h = ((h.row < v.key.sizes.hosts) × (h.generation ≡ 1)) ⊎ IsOwned v h
 
 -- the handle of the lowest row that can be bound, one generation on
 pub record IsNext (v : View) (h : Handle) : Type 0 where

@@ -4,3 +4,4 @@ pub mod StepsMade
 pub mod Filling
 pub mod Sweeping
 pub mod Protecting
+pub mod Leaving

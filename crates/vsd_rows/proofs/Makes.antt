@@ -30,7 +30,7 @@ grows_on {old = old} first second = record {
 }
 
 pub stays_same : (s : Seated) → StaysCaller s s
-stays_same s = record { table_id = refl; seat = refl; key = refl; who = refl; bindings = grows_not _ _ refl; evidences = grows_not _ _ refl }
+stays_same s = record { table_id = refl; seat = refl; key = refl; who = refl; bindings = grows_not _ _ refl; evidences = grows_not _ _ refl; cast_evidences = grows_not _ _ refl }
 
 pub stays_on : {old now new : Seated} → StaysCaller old now → StaysCaller now new → StaysCaller old new
 stays_on first second = record {
@@ -40,6 +40,7 @@ stays_on first second = record {
   who = second.who ∙ first.who;
   bindings = grows_on first.bindings second.bindings;
   evidences = grows_on first.evidences second.evidences;
+  cast_evidences = grows_on first.cast_evidences second.cast_evidences;
 }
 
 -- what is there stays there

@@ -63,6 +63,7 @@ plain_step old new act found d n unnamed b m learns =
         who = ap (λ (w : View). w.who) b.view;
         bindings = subst (λ (w : View). Grows _ v.handles.bindings w.handles.bindings) (sym b.view) learns;
         evidences = subst (λ (w : View). Grows _ v.rows.evidences w.rows.evidences) (sym b.view) m.evidences;
+        cast_evidences = grows_not _ _ (ap (λ (w : View). w.casts.evidences) b.view);
       };
     }
 
@@ -95,6 +96,7 @@ epoch_made old new doing found b =
         who = ap (λ (w : View). w.who) b.view;
         bindings = grows_not _ _ (ap (λ (w : View). w.handles.bindings) b.view);
         evidences = grows_not _ _ (ap (λ (w : View). w.rows.evidences) b.view);
+        cast_evidences = grows_not _ _ (ap (λ (w : View). w.casts.evidences) b.view);
       };
     }
 

@@ -3,3 +3,5 @@ pub mod Retired
 pub mod Makes
 pub mod Hands
 pub mod Sweeps
+pub mod Logged
+pub mod Leaving

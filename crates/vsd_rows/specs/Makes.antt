@@ -2,6 +2,7 @@
 use Rattle.std.specs.Prelude.{◌≡◌, List, ◌++◌}
 use Rattle.vsd_rule.specs.declared.handle_view.Binding.{Binding}
 use Rattle.vsd_rule.specs.declared.row_view.Evidence.{Evidence}
+use Rattle.vsd_rule.specs.declared.cast_view.CastEvidence.{CastEvidence}
 use Rattle.vsd_table.specs.declared.seated.Seated.{Seated}
 use Rattle.vsd_table.specs.Seating.{view_of, begun_of}
 use Rattle.vsd_trails.specs.Programs.{Fields, TrailStep, Program, after_steps, Runs, onto}
@@ -28,6 +29,7 @@ pub record StaysCaller (old new : Seated) : Type 0 where
   pub who : (view_of new).who ≡ (view_of old).who
   pub bindings : Grows Binding (view_of old).handles.bindings (view_of new).handles.bindings
   pub evidences : Grows Evidence (view_of old).rows.evidences (view_of new).rows.evidences
+  pub cast_evidences : Grows CastEvidence (view_of old).casts.evidences (view_of new).casts.evidences
 
 -- The seat made the steps of a run of the program that ends in this answer, and no others.
 pub record Makes {A : Type 0} (old new : Seated) (p : Program A) (answer : A) : Type 0 where

@@ -2,10 +2,10 @@
 use Rattle.std.specs.Prelude.{◌≡◌, ℕ, List, Some, Ok, Err}
 use Rattle.vsd_text.specs.declared.tokens.Token.{Token}
 use Rattle.vsd_text.specs.Tokens.{tokens_of}
-use Rattle.vsd_decls.specs.declared.errors.DeclError.TheVariants.{Unsupported}
-use Rattle.vsd_decls.specs.declared.errors.Form.TheVariants.{NotBuilt}
-use Rattle.vsd_decls.specs.Lexeme.{spelled}
-use Rattle.vsd_decls.specs.FirstForm.{FirstNames, IsFirst, answer_line}
+use Rattle.vsd_first.specs.declared.errors.DeclError.TheVariants.{Unsupported}
+use Rattle.vsd_first.specs.declared.errors.Form.TheVariants.{NotBuilt}
+use Rattle.vsd_first.specs.Lexeme.{spelled}
+use Rattle.vsd_first.specs.FirstForm.{FirstNames, IsFirst, answer_line}
 use Rattle.vsd_runner.specs.Refusals.{refusal_line}
 use Rattle.vsd_runner.specs.declared.statuses.Refusal.{Refusal}
 use Rattle.vsd_runner.specs.declared.statuses.Refusal.TheVariants.{Lex, Decl}

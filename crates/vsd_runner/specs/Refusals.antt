@@ -2,10 +2,10 @@
 use Rattle.std.specs.Prelude.{ℕ, List, ◌++◌, codes, decimal, Option, Some, None, Bool, true, is_some}
 use Rattle.vsd_text.specs.declared.tokens.LexError.{LexError}
 use Rattle.vsd_text.specs.declared.tokens.LexError.TheVariants.{BadByte, OpenComment, OpenQuote, TooLong}
-use Rattle.vsd_decls.specs.declared.errors.DeclError.{DeclError}
-use Rattle.vsd_decls.specs.declared.errors.DeclError.TheVariants.{Unsupported}
-use Rattle.vsd_decls.specs.declared.errors.Form.{Form}
-use Rattle.vsd_decls.specs.declared.errors.Form.TheVariants.{NotBuilt}
+use Rattle.vsd_first.specs.declared.errors.DeclError.{DeclError}
+use Rattle.vsd_first.specs.declared.errors.DeclError.TheVariants.{Unsupported}
+use Rattle.vsd_first.specs.declared.errors.Form.{Form}
+use Rattle.vsd_first.specs.declared.errors.Form.TheVariants.{NotBuilt}
 use Rattle.vsd_runner.specs.declared.statuses.Refusal.{Refusal}
 use Rattle.vsd_runner.specs.declared.statuses.Refusal.TheVariants.{Lex, Decl}
 use Rattle.vsd_runner.specs.declared.statuses.Status.{Status}

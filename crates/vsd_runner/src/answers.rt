@@ -1,13 +1,13 @@
 //! What a text answers.
 ghost use Rattle.std.specs.Prelude.{◌≡◌, ℕ, List, Some, IfOk};
-ghost use Rattle.vsd_decls.specs.FirstForm.{answer_line};
+ghost use Rattle.vsd_first.specs.FirstForm.{answer_line};
 ghost use Rattle.vsd_runner.specs.Refusals.{refusal_line};
 ghost use Rattle.vsd_runner.specs.Answers.{IsAnswer};
 
 use crate::refusals::refusal_line;
 use crate::statuses::{Refusal, Status};
 use std::alloc::{AllocError, Global};
-use vsd_decls::{First, read_first};
+use vsd_first::{First, read_first};
 use vsd_text::lex;
 
 /// How a run over a text ends, and what is written then.

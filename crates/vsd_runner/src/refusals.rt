@@ -4,7 +4,7 @@ ghost use Rattle.vsd_runner.specs.Refusals.{refused, form_text, refusal_line};
 
 use crate::statuses::Refusal;
 use std::alloc::{AllocError, Global};
-use vsd_decls::{DeclError, Form};
+use vsd_first::{DeclError, Form};
 use vsd_text::LexError;
 
 /// The line for a refusal. Want of memory is no refusal of a text, and has none.

@@ -2,7 +2,7 @@
 ghost use Rattle.std.specs.Prelude.{◌≡◌};
 ghost use Rattle.vsd_runner.specs.Refusals.{number_of};
 
-use vsd_decls::DeclError;
+use vsd_first::DeclError;
 use vsd_text::LexError;
 
 /// Why a text is refused: the error of the reader that refused it, with the line at which it shows. A

@@ -1,7 +1,0 @@
--- The lemmas.
-pub mod Leaving
-pub mod PartsMade
-pub mod Stubbing
-pub mod Walks
-pub mod CallsMade
-pub mod Logging
