@@ -53,3 +53,6 @@ class_in_list i d e h = subst (λ j. is_end (class_at j) ≡ false) e (in_list d
 
 pub left_from : (i : Input) (d : Inside) (n : ℕ) → input_of d ≡ i → n ≡ length d.tokens.now - d.at → n ≡ left i
 left_from i d n e h = h ∙ ap (λ m. m - d.at) (sym (length-map d.tokens.now (seen_of d.text.now))) ∙ ap left e
+
+pub index_inside : (i : Input) (d : Inside) → input_of d ≡ i → d.at ≤ length d.tokens.now → d.at ≤ length i.all
+index_inside i d e h = subst (λ j. d.at ≤ length j.all) e (subst (λ n. d.at ≤ n) (sym (length-map d.tokens.now (seen_of d.text.now))) h)

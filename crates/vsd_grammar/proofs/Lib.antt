@@ -16,3 +16,6 @@ pub mod ListSteps
 pub mod TurnSteps
 pub mod Pairs
 pub mod Deciding
+pub mod Spelling
+pub mod Counts
+pub mod Behaving

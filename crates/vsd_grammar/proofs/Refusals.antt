@@ -1,12 +1,12 @@
 -- What each refusal of a production has, by one walk over the data.
-use Rattle.std.proofs.Common.{◌≡◌, ℕ, zero, suc, ◌≤◌, min, Bool, true, false, cond, ltb, List, [], ◌∷◌, IsTrue, Option, Some, None, Result, Ok, Err, IfErr, IfSome, refl}
+use Rattle.std.proofs.Common.{◌≡◌, ℕ, zero, suc, ◌≤◌, min, Bool, true, false, cond, ltb, List, [], ◌∷◌, IsTrue, Option, Some, None, Result, Ok, Err, MatchResult, IfSome, refl}
 use Rattle.vsd_grammar.specs.declared.token_class.TokenClass.{TokenClass}
 use Rattle.vsd_grammar.specs.declared.cause.Cause.{Cause}
 use Rattle.vsd_grammar.specs.declared.cause.Cause.TheVariants.{Unexpected}
 use Rattle.vsd_grammar.specs.declared.syntax_error.SyntaxError.{SyntaxError}
 use Rattle.vsd_grammar.specs.Input.{Input, State, class_at, bytes_at, next, left, is_end, is_comma}
 use Rattle.vsd_grammar.specs.Grammar.{G, ret, refuse, refuse_at, lookahead, pass, count, bind, optional, separated, until, Outcome, and_then, counted, tested, tried, surplus, after_item, after_turn, syntax_error, items, turns, run}
-use Rattle.vsd_grammar.specs.Laws.{CausesPass}
+use Rattle.vsd_grammar.specs.Laws.{CausesPass, Behaves, any_step, any_cause}
 
 -- an outcome that is no refusal, or one of which this holds
 abbrev pub Holds : {A : Type 0} → (SyntaxError → Type 0) → Outcome A → Type 0
@@ -16,7 +16,7 @@ Holds P (Err e) = P e
 abbrev pub Passes : (Cause → Bool) → Option Cause → Type 0
 Passes test c = IfSome c (λ cause. IsTrue (test cause))
 
-module _ (test : Cause → Bool) (P : SyntaxError → Type 0) (here : (i : Input) (cause : Cause) → IsTrue (test cause) → P (syntax_error i cause))
+module _ (test : Cause → Bool) (keeps : State → State → Bool) (P : SyntaxError → Type 0) (here : (i : Input) (cause : Cause) → IsTrue (test cause) → P (syntax_error i cause))
     (earlier : (index : ℕ) (i : Input) (cause : Cause) → IsTrue (test cause) → P (record { at = min index i.at; by = i.at; cause = cause })) where
   holds_then : {A B : Type 0} (o : Outcome A) (f : A → Input → Outcome B) → Holds P o → ((x : A) (k : Input) → Holds P (f x k)) → Holds P (and_then o f)
   holds_then (Ok r) f h more = more r.0 r.1
@@ -26,7 +26,7 @@ module _ (test : Cause → Bool) (P : SyntaxError → Type 0) (here : (i : Input
   holds_cond true o p h k = h
   holds_cond false o p h k = k
 
-  holds_counted : {A : Type 0} (i : Input) (r : Result (A × State) Cause) → IfErr r (λ cause. IsTrue (test cause)) → Holds P (counted i r)
+  holds_counted : {A : Type 0} (i : Input) (r : Result (A × State) Cause) → MatchResult r (λ v. IsTrue (keeps i.state v.1)) (λ cause. IsTrue (test cause)) → Holds P (counted i r)
   holds_counted i (Ok r) h = tt
   holds_counted i (Err cause) h = here i cause h
 
@@ -63,7 +63,7 @@ module _ (test : Cause → Bool) (P : SyntaxError → Type 0) (here : (i : Input
       (holds_then (step s i) (λ t k. after_turn (ltb i.at k.at) k (turns stop step n t k)) (h s i)
       (λ t k. holds_after_turn (ltb i.at k.at) k (turns stop step n t k) u (holds_turns stop step h u n t k)))
 
-  pub holds : (A : Type 0) (g : G A) (i : Input) → CausesPass test A g → Holds P (run A g i)
+  pub holds : (A : Type 0) (g : G A) (i : Input) → Behaves test keeps A g → Holds P (run A g i)
   holds _ (ret A a) i c = tt
   holds _ (refuse A cause) i c = here i cause c
   holds _ (refuse_at A index cause) i c = earlier index i cause c
@@ -78,12 +78,9 @@ module _ (test : Cause → Bool) (P : SyntaxError → Type 0) (here : (i : Input
 
 -- ---- each cause passes the test that all pass
 
-abbrev pub any_cause : Cause → Bool
-any_cause cause = true
-
-all_counted : {A : Type 0} (r : Result (A × State) Cause) → IfErr r (λ cause. IsTrue (any_cause cause))
-all_counted (Ok r) = tt
-all_counted (Err cause) = refl
+all_counted : {A : Type 0} (s : State) (r : Result (A × State) Cause) → MatchResult r (λ v. IsTrue (any_step s v.1)) (λ cause. IsTrue (any_cause cause))
+all_counted s (Ok r) = refl
+all_counted s (Err cause) = refl
 
 all_tested : (c : Option Cause) → Passes any_cause c
 all_tested None = tt
@@ -95,7 +92,7 @@ all_pass _ (refuse A cause) = refl
 all_pass _ (refuse_at A index cause) = refl
 all_pass _ lookahead = tt
 all_pass _ pass = refl
-all_pass _ (count A step) = λ s. all_counted (step s)
+all_pass _ (count A step) = λ s. all_counted s (step s)
 all_pass _ (bind A B p f) = (all_pass A p, λ x. all_pass B (f x))
 all_pass _ (optional A begins p) = all_pass A p
 all_pass _ (separated A first many p room) = (all_pass A p, refl, λ q b. all_tested (first q b))

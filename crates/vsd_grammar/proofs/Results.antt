@@ -8,13 +8,13 @@ use Rattle.vsd_grammar.specs.declared.syntax_error.Stop.TheVariants as stop
 use Rattle.vsd_grammar.specs.Input.{Input, left}
 use Rattle.vsd_grammar.specs.Grammar.{G, Outcome, run, Derives, Decides}
 use Rattle.vsd_grammar.specs.Productions.{Reads, ReadsBy}
-use Rattle.vsd_grammar.specs.Laws.{Found, Only, Dead, IsReader, CausesPass, KeepsCauses, StandsInList}
+use Rattle.vsd_grammar.specs.Laws.{Found, Only, Dead, IsReader, CausesPass, any_step, any_cause, KeepsCauses, StandsInList}
 use Rattle.vsd_grammar.proofs.Outcomes.{ok_parts, err_ok}
 use Rattle.vsd_grammar.proofs.Bounds.{Within, within}
 use Rattle.vsd_grammar.proofs.Soundness.{sound}
 use Rattle.vsd_grammar.proofs.Completeness.{complete}
 use Rattle.vsd_grammar.proofs.Consequences.{dead}
-use Rattle.vsd_grammar.proofs.Refusals.{Holds, holds, any_cause, all_pass}
+use Rattle.vsd_grammar.proofs.Refusals.{Holds, holds, all_pass}
 
 pub found : {B : Type 0} (A : Type 0) (g : G A) (view : B → A) (i : Input) (result : Result B Stop) (j : Input) → ReadsBy view (run A g i) result j → Found A g view i result j
 found A g view i (Ok x) j e = sound A g i (view x) j e
@@ -39,10 +39,10 @@ refused : {A : Type 0} (P : SyntaxError → Type 0) (o : Outcome A) (r : SyntaxE
 refused P o r h e = subst (Holds P) e h
 
 pub keeps_causes : (A : Type 0) (g : G A) → KeepsCauses A g
-keeps_causes A g test i r c e = refused (λ s. IsTrue (test s.cause)) (run A g i) r (holds test (λ s. IsTrue (test s.cause)) (λ i cause t. t) (λ index i cause t. t) A g i c) e
+keeps_causes A g test i r c e = refused (λ s. IsTrue (test s.cause)) (run A g i) r (holds test any_step (λ s. IsTrue (test s.cause)) (λ i cause t. t) (λ index i cause t. t) A g i c) e
 
 pub stands_in_list : (A : Type 0) (g : G A) → StandsInList A g
 stands_in_list A g i r inside e =
-    let low : r.at ≤ r.by = refused (λ s. s.at ≤ s.by) (run A g i) r (holds any_cause (λ s. s.at ≤ s.by) (λ i cause t. omega arith) (λ index i cause t. omega arith) A g i (all_pass A g)) e in
+    let low : r.at ≤ r.by = refused (λ s. s.at ≤ s.by) (run A g i) r (holds any_cause any_step (λ s. s.at ≤ s.by) (λ i cause t. omega arith) (λ index i cause t. omega arith) A g i (all_pass A g)) e in
     let near = subst (Within i) e (within A g i) in
     (low, near.0, omega arith)

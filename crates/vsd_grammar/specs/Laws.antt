@@ -1,5 +1,5 @@
 -- The laws that hold of every grammar.
-use Rattle.std.specs.Prelude.{◌≡◌, ℕ, ◌+◌, ◌≤◌, Bool, IsTrue, List, length, Option, Result, Ok, Err, IfOk, IfErr, IfSome, slice_get}
+use Rattle.std.specs.Prelude.{◌≡◌, ℕ, ◌+◌, ◌≤◌, Bool, true, IsTrue, List, length, Option, Result, Ok, Err, IfOk, MatchResult, IfSome, slice_get}
 use Rattle.vsd_grammar.specs.declared.token_class.TokenClass.{TokenClass}
 use Rattle.vsd_grammar.specs.declared.cause.Cause.{Cause}
 use Rattle.vsd_grammar.specs.declared.cause.Cause.TheVariants.{Unexpected}
@@ -39,23 +39,38 @@ KeepsRefusal A g = (i : Input) (r : SyntaxError) (ys : List Seen) → run A g i 
 abbrev pub StandsInList : (A : Type 0) → G A → Type 0
 StandsInList A g = (i : Input) (r : SyntaxError) → i.at ≤ length i.all → run A g i ≡ Err r → (r.at ≤ r.by) × (i.at ≤ r.by) × (r.by ≤ length i.all)
 
--- Each cause that stands in the production passes the test. A token is unexpected wherever one is passed over.
+-- Each cause that stands in the production passes the test, and each step of the counts keeps to the relation. A token
+-- is unexpected wherever one is passed over.
+abbrev pub Behaves : (Cause → Bool) → (State → State → Bool) → (A : Type 0) → G A → Type 0
+Behaves test keeps _ (ret A a) = Unit {0}
+Behaves test keeps _ (refuse A cause) = IsTrue (test cause)
+Behaves test keeps _ (refuse_at A index cause) = IsTrue (test cause)
+Behaves test keeps _ lookahead = Unit {0}
+Behaves test keeps _ pass = IsTrue (test Unexpected)
+Behaves test keeps _ (count A step) = (s : State) → MatchResult (step s) (λ r. IsTrue (keeps s r.1)) (λ cause. IsTrue (test cause))
+Behaves test keeps _ (bind A B p f) = Behaves test keeps A p × ((x : A) → Behaves test keeps B (f x))
+Behaves test keeps _ (optional A begins p) = Behaves test keeps A p
+Behaves test keeps _ (separated A first many p room) =
+    Behaves test keeps A p × IsTrue (test many) × ((q : TokenClass) (b : List ℕ) → IfSome (first q b) (λ cause. IsTrue (test cause)))
+Behaves test keeps _ (until S stop step s) = IsTrue (test Unexpected) × ((t : S) → Behaves test keeps S (step t))
+
+abbrev pub any_step : State → State → Bool
+any_step s t = true
+
+abbrev pub any_cause : Cause → Bool
+any_cause cause = true
+
 abbrev pub CausesPass : (Cause → Bool) → (A : Type 0) → G A → Type 0
-CausesPass test _ (ret A a) = Unit {0}
-CausesPass test _ (refuse A cause) = IsTrue (test cause)
-CausesPass test _ (refuse_at A index cause) = IsTrue (test cause)
-CausesPass test _ lookahead = Unit {0}
-CausesPass test _ pass = IsTrue (test Unexpected)
-CausesPass test _ (count A step) = (s : State) → IfErr (step s) (λ cause. IsTrue (test cause))
-CausesPass test _ (bind A B p f) = CausesPass test A p × ((x : A) → CausesPass test B (f x))
-CausesPass test _ (optional A begins p) = CausesPass test A p
-CausesPass test _ (separated A first many p room) =
-    CausesPass test A p × IsTrue (test many) × ((q : TokenClass) (b : List ℕ) → IfSome (first q b) (λ cause. IsTrue (test cause)))
-CausesPass test _ (until S stop step s) = IsTrue (test Unexpected) × ((t : S) → CausesPass test S (step t))
+CausesPass test A g = Behaves test any_step A g
 
 -- If each cause in a production passes a test, so does that of each refusal.
 abbrev pub KeepsCauses : (A : Type 0) → G A → Type 0
 KeepsCauses A g = (test : Cause → Bool) (i : Input) (r : SyntaxError) → CausesPass test A g → run A g i ≡ Err r → IsTrue (test r.cause)
+
+-- What each step of the counts keeps to, the whole of a production keeps to.
+abbrev pub KeepsCounts : (A : Type 0) → G A → Type 0
+KeepsCounts A g = (keeps : State → State → Bool) → ((s : State) → IsTrue (keeps s s)) → ((s t u : State) → IsTrue (keeps s t) → IsTrue (keeps t u) → IsTrue (keeps s u))
+    → Behaves any_cause keeps A g → (i : Input) (x : A) (j : Input) → Derives A g i x j → IsTrue (keeps i.state j.state)
 
 -- A reading goes forward in its list.
 abbrev pub GoesForward : (A : Type 0) → G A → Type 0

@@ -29,8 +29,10 @@ line_of tokens index = option_map_or (λ t. t.line) (slice_get tokens index) (en
 abbrev pub input_of : Inside → Input
 input_of c = record { all = map (seen_of c.text.now) c.tokens.now; at = c.at; state = record { nodes = c.nodes; names = c.names } }
 
--- Each token lies in the text, there are no more than a text may have, and the class is that of the token at hand.
+-- Each token lies in the text, there are no more than a text may have, the place is one of them or their end, and the
+-- class is that of the token at hand.
 pub record IsReady (c : Inside) : Type 0 where
   pub within : All (LiesWithin c.text.now) c.tokens.now
   pub few : length c.tokens.now ≤ most_tokens
+  pub inside : c.at ≤ length c.tokens.now
   pub known : c.class ≡ class_of (slice_get (map (seen_of c.text.now) c.tokens.now) c.at)

@@ -48,12 +48,13 @@ impl<'a> Model for Cursor<'a> {
 }
 
 impl<'a> Cursor<'a> {
-    /// The place of the token at an index, from 0, with these names; the end, where the index is that of no token.
+    /// The place of the token at an index, from 0, or of the end, which has the number of tokens, with these names.
     ///
     /// No nodes are counted there.
     pub fn new(text: &'a [u8], tokens: &'a [Token], index: usize, names: Names) -> Cursor<'a>
         requires within { All (LiesWithin text.now) tokens.now }
         requires few { length tokens.now ≤ most_tokens }
+        requires inside { index ≤ length tokens.now }
         ensures { result ≡ start_of text.now tokens.now index names }
     {
         Cursor {
@@ -95,8 +96,11 @@ impl<'a> Cursor<'a> {
     }
 
     /// The index of the token at hand, from 0, or the number of tokens at the end.
+    #[tactic(auto, using(crate::proofs::Ends::index_inside))]
     pub fn index(&self) -> usize
-        ensures { result ≡ self.now.at }
+        ensures value { result ≡ self.now.at }
+        ensures inside { result ≤ length self.now.all }
+        ensures small { result ≤ most_tokens }
     {
         self.at
     }

@@ -3,7 +3,7 @@ ghost use Rattle.vsd_grammar.specs.Grammar.{G, Decides};
 ghost use Rattle.vsd_grammar.specs.Productions.{name, numbered_name, plain_words, spelled_number};
 ghost use Rattle.vsd_grammar.specs.Words.{WordsHaveKeys};
 ghost use Rattle.vsd_grammar.specs.Skipping.{SkipsPairs, skip};
-ghost use Rattle.vsd_grammar.specs.Laws.{IsSound, IsComplete, KeepsReading, KeepsRefusal, KeepsCauses, StandsInList, IsReader, GoesForward, IsDead, IsUnambiguous};
+ghost use Rattle.vsd_grammar.specs.Laws.{IsSound, IsComplete, KeepsReading, KeepsRefusal, KeepsCauses, KeepsCounts, StandsInList, IsReader, GoesForward, IsDead, IsUnambiguous};
 ghost use Rattle.vsd_grammar.specs.declared.token_class.TokenClass.{TokenClass};
 ghost use Rattle.std.specs.Prelude.{ℕ, Bool};
 
@@ -53,6 +53,11 @@ pub fn stands_in_list<P: Production>()
 /// If each cause in a production passes a test, so does the cause of each refusal.
 pub fn keeps_causes<P: Production>()
     ensures { KeepsCauses P.Value P.production }
+{}
+
+/// What each step of the counts keeps to, the whole of a production keeps to.
+pub fn keeps_counts<P: Production>()
+    ensures { KeepsCounts P.Value P.production }
 {}
 
 /// What a function that reads a production answers is allowed, whatever is allowed is what it answers, and after its

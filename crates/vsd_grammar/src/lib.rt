@@ -20,8 +20,8 @@ pub use cursor::{Cursor, line_of, same_class, same_keyword};
 pub use decimal::spelled_number;
 pub use keyword::{Keyword, keyword_of};
 pub use laws::{
-    Production, complete, dead, goes_forward, keeps_causes, keeps_reading, keeps_refusal,
-    names_are_decided, reads_well, skips_pairs, sound, stands_in_list, unambiguous,
+    Production, complete, dead, goes_forward, keeps_causes, keeps_counts, keeps_reading,
+    keeps_refusal, names_are_decided, reads_well, skips_pairs, sound, stands_in_list, unambiguous,
     words_have_keys,
 };
 pub use loops::{scan, separated, until};

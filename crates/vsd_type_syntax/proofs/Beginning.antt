@@ -7,25 +7,13 @@ use Rattle.vsd_grammar.specs.declared.cause.Cause.TheVariants.{Unexpected}
 use Rattle.vsd_grammar.specs.Input.{Input, Lookahead, class_at, bytes_at, lookahead_of}
 use Rattle.vsd_grammar.specs.Grammar.{G, Derives, tried}
 use Rattle.vsd_grammar.specs.Productions.{is_name, checked, name_by, spelled_name, no_nodes}
+use Rattle.vsd_grammar.proofs.Spelling.{spelled_some}
 use Rattle.vsd_type_syntax.specs.declared.starts.Start.{Start}
 use Rattle.vsd_type_syntax.specs.declared.starts.Start.TheVariants as start
 use Rattle.vsd_type_syntax.specs.declared.starts.Special.{Special}
 use Rattle.vsd_type_syntax.specs.declared.starts.Special.TheVariants as special
 use Rattle.vsd_type_syntax.specs.Starts.{start_at, special_of}
 use Rattle.vsd_type_syntax.specs.Types as spec
-
--- a name that is spelled isn't empty
-spelled_some : (i : Input) (x : List ℕ) (j : Input) → Derives (List ℕ) spelled_name i x j → eqb (length (bytes_at i)) 0 ≡ false
-unfolding spelled_name
-spelled_some i x j d = ap (λ h. eqb (length h.bytes) 0) d.2.0 ∙ go (is_name d.0.class) d.3
-  where
-    more : (e : Bool) (r : Result (List ℕ) Cause) → Derives (List ℕ) (checked (List ℕ) (cond e (Err Unexpected) r)) d.1 x j → e ≡ false
-    more true r g = absurd g
-    more false r g = refl
-
-    go : (b : Bool) → Derives (List ℕ) (checked (List ℕ) (name_by b d.0.bytes)) d.1 x j → eqb (length d.0.bytes) 0 ≡ false
-    go false g = absurd g
-    go true g = more (eqb (length d.0.bytes) 0) _ g
 
 named_begins : (rules : spec.Rules) (more : ℕ → ℕ → G Term) (i : Input) (x : Term) (j : Input) → Derives Term (spec.named rules more false) i x j
     → spec.name_cause (eqb (length (bytes_at i)) 0) (special_of (bytes_at i)) ≡ None

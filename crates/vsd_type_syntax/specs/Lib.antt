@@ -2,3 +2,4 @@
 pub mod Starts
 pub mod Types
 pub mod More
+pub mod Behaving

@@ -1,0 +1,30 @@
+use Rattle.std.proofs.Common.{rules, ◌≡◌, Ok, Err, List, IsTrue, sym, subst, ap, ◌∙◌, IfErr}
+use Rattle.vsd_ast.specs.declared.declarations.Decl.{Decl}
+use Rattle.vsd_ast.specs.declared.declarations.Decls.{Decls}
+use Rattle.vsd_grammar.specs.Grammar.{run}
+use Rattle.vsd_decl_syntax.specs.Causes.{is_decl_cause}
+use Rattle.vsd_decls.specs.Grammar.{declarations}
+use Rattle.vsd_decls.specs.Declarations.{beginning, AreDeclarations, IsOnly, decls_of}
+use Rattle.vsd_decls.proofs.Answering.{decl_cause, are_declarations, only_read, none_derived, is_dead}
+use Rattle.vsd_decls.proofs.reading.read_decls.Goals as goal
+
+pub returns-in-Ok-clause-found : goal.returns-in-Ok-clause-found
+returns-in-Ok-clause-found c = subst (AreDeclarations c.args.text.now c.args.tokens.now) (sym c.decls_of.ensures) (are_declarations c.args.text.now c.args.tokens.now c.in-Ok.list c.declarations.new.cursor (search rules))
+
+pub returns-in-Ok-clause-only : goal.returns-in-Ok-clause-only
+returns-in-Ok-clause-only c = λ d a. only_read c.args.text.now c.args.tokens.now c.in-Ok.list c.declarations.new.cursor (search rules) d a ∙ sym c.decls_of.ensures
+
+pub returns-in-Err-Memory-clause-dead : goal.returns-in-Err-Memory-clause-dead
+returns-in-Err-Memory-clause-dead c = is_dead c.args.text.now c.args.tokens.now
+
+pub error_of-requires : goal.error_of-requires
+error_of-requires c =
+    let cause = decl_cause (beginning c.args.text.now c.args.tokens.now) c.in-Err-Refused.refused (search rules) in
+    let same = c.in-Err-Refused.refused-is in
+    cc
+
+pub returns-clause-only : goal.returns-clause-only
+returns-clause-only c = λ d a. absurd (none_derived c.args.text.now c.args.tokens.now c.in-Err-Refused.refused (search rules) d a)
+
+pub returns-clause-dead : goal.returns-clause-dead
+returns-clause-dead c = is_dead c.args.text.now c.args.tokens.now

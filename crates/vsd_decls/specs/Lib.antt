@@ -1,0 +1,5 @@
+-- What contracts of this crate cite.
+pub mod Texts
+pub mod Refusals
+pub mod Grammar
+pub mod Declarations

@@ -1,0 +1,680 @@
+//! The reader on whole texts: each production, each refusal at its limit and one past it, and the trees of a longer text.
+use crate::{Counted, DeclError, Form, read_decls};
+use std::alloc::Global;
+use std::test::Fail;
+use vsd_ast::{Access, Decls, Implementer, Sign};
+use vsd_terms::{Builtin, Term};
+use vsd_text::lex;
+
+fn declared(alloc: Global, text: &[u8]) -> Result<Result<Decls, DeclError>, Fail> {
+    let tokens = lex(alloc, text)?;
+    Ok(read_decls(alloc, text, tokens.as_slice()))
+}
+
+/// Why a text is refused, if it is.
+fn refusal(alloc: Global, text: &[u8]) -> Result<Option<DeclError>, Fail> {
+    match declared(alloc, text)? {
+        Ok(_) => Ok(None),
+        Err(error) => Ok(Some(error)),
+    }
+}
+
+/// A piece so many times, in which `#` is the number of the time, from 0.
+fn filled(alloc: Global, piece: &[u8], times: u32) -> Result<Vec<u8>, Fail> {
+    let mut text = Vec::new(alloc);
+    for time in 0..times {
+        for byte in piece {
+            if *byte == b'#' {
+                text.extend_from_slice(format!(in alloc; "{time}")?.as_bytes())?;
+            } else {
+                text.push(*byte)?;
+            }
+        }
+    }
+    Ok(text)
+}
+
+/// Why a text with these parts is refused, which begin in its second line.
+fn of_parts(alloc: Global, parts: [&[u8]; 3]) -> Result<Option<DeclError>, Fail> {
+    let mut text = Vec::new(alloc);
+    text.extend_from_slice(b"vsd 1\n")?;
+    for part in parts {
+        text.extend_from_slice(part)?;
+    }
+    text.extend_from_slice(b"\n%%\n")?;
+    refusal(alloc, text.as_slice())
+}
+
+/// Why these items are refused.
+fn of_items(alloc: Global, items: &[u8]) -> Result<Option<DeclError>, Fail> {
+    of_parts(alloc, [b"", items, b""])
+}
+
+/// Why these members of a class with the parameters `T` and `u v` are refused.
+fn of_members(alloc: Global, members: &[u8]) -> Result<Option<DeclError>, Fail> {
+    of_parts(alloc, [b".class C`2<T, 'u v'> {", members, b"}"])
+}
+
+const fn unsupported(what: Form) -> Option<DeclError> {
+    Some(DeclError::Unsupported { line: 2, what })
+}
+
+const fn too_many(what: Counted) -> Option<DeclError> {
+    Some(DeclError::TooMany { line: 2, what })
+}
+
+const UNEXPECTED: Option<DeclError> = Some(DeclError::Unexpected { line: 2 });
+
+const TOO_DEEP: Option<DeclError> = Some(DeclError::TooDeep { line: 2 });
+
+#[test]
+fn items_of_each_kind(rt: HostRuntime) -> Result<(), Fail> {
+    let cases: [(&[u8], Option<DeclError>); 46] = [
+        (b"", None),
+        (b".class A { }", None),
+        (
+            b".class public private abstract sealed interface auto sequential explicit ansi unicode autochar beforefieldinit serializable specialname rtspecialname import A { }",
+            None,
+        ),
+        (
+            b".class virtual { } .class extends { } .class 'a b' { } .class class { } .class int32 { }",
+            None,
+        ),
+        (
+            b".class A`3<+ T, - U, 'v w'> extends class B`1<!T> implements valuetype C, [x]System.Object, D { }",
+            None,
+        ),
+        (
+            b".class A extends object implements string, System.ValueType { }",
+            None,
+        ),
+        (b".class A extends int32 { }", UNEXPECTED),
+        (b".class A<T> extends !T { }", UNEXPECTED),
+        (b".class A implements unsigned int8 { }", UNEXPECTED),
+        (b".class A implements { }", UNEXPECTED),
+        (b".class { }", UNEXPECTED),
+        (b".class '' { }", UNEXPECTED),
+        (b".class .a { }", UNEXPECTED),
+        (b".class A<> { }", UNEXPECTED),
+        (b".class A<T,> { }", UNEXPECTED),
+        (b".class A implements B extends C { }", UNEXPECTED),
+        (b".class A extends System.Object<int32> { }", UNEXPECTED),
+        (
+            b".assembly extern X { .ver 1 : 0 } .assembly Y { } .module Y.dll .imagebase 1 .file alignment 2 .stackreserve 3 .subsystem 4 .corflags 5 .custom 6 .field int32 x .method static void .ctor() { { } } .data 7 .mresource 8 { } .permissionset 9 .language 'x' .line 10 .vtfixup 11",
+            None,
+        ),
+        (b".property int32 x", UNEXPECTED),
+        (b".override x", UNEXPECTED),
+        (b".method .cctor .ctor .class A { }", None),
+        (b".data }", UNEXPECTED),
+        (b".data { %%", UNEXPECTED),
+        (b"A", UNEXPECTED),
+        (b"public", UNEXPECTED),
+        (b".namespace N { }", unsupported(Form::Namespace)),
+        (b".class extern A { }", unsupported(Form::TypeForwarding)),
+        (b".class public extern { }", None),
+        (b".class nested A { }", unsupported(Form::Nested)),
+        (b".class public nested A { }", unsupported(Form::Nested)),
+        (b".class A extends B/C { }", unsupported(Form::Nested)),
+        (b".class A extends object/C { }", UNEXPECTED),
+        (b".class A extends System.Enum { }", unsupported(Form::Enum)),
+        (
+            b".class A extends [x]'System.Enum' { }",
+            unsupported(Form::Enum),
+        ),
+        (b".class System.Enum { }", None),
+        (
+            b".class A extends System.MulticastDelegate { }",
+            unsupported(Form::Delegate),
+        ),
+        (
+            b".class A implements System.Delegate { }",
+            unsupported(Form::Delegate),
+        ),
+        (b".class A extends [x]B { }", unsupported(Form::ForeignType)),
+        (
+            b".class A extends [x]int32 { }",
+            unsupported(Form::ForeignType),
+        ),
+        (b".class A<class T> { }", unsupported(Form::Constraint)),
+        (
+            b".class A<+ valuetype T> { }",
+            unsupported(Form::Constraint),
+        ),
+        (b".class A<.ctor T> { }", unsupported(Form::Constraint)),
+        (b".class A<T, (B) U> { }", unsupported(Form::Constraint)),
+        (b".class A extends B[] { }", unsupported(Form::Array)),
+        (b".class A extends B& { }", unsupported(Form::Pointer)),
+        (b".class A extends method { }", unsupported(Form::Pointer)),
+    ];
+    for (items, wanted) in cases {
+        assert_eq!(rt; of_items(rt.alloc(), items)?, wanted);
+    }
+    Ok(())
+}
+
+#[test]
+fn members_of_each_kind(rt: HostRuntime) -> Result<(), Fail> {
+    let cases: [(&[u8], Option<DeclError>); 58] = [
+        (
+            b".field int32 x .property y { } .event z { } .custom a .pack 1 .size 2 .param [1] .interfaceimpl b .data c .permissionset d .language e .line 3",
+            None,
+        ),
+        (
+            b".method public private family assembly famorassem famandassem privatescope final virtual strict hidebysig newslot abstract specialname rtspecialname reqsecobj instance default void M() cil managed { }",
+            None,
+        ),
+        (
+            b".method virtual !0 M(!T, !1 x, !'u v' 'y z', [in] [out][opt] object, [in]string in) { }",
+            None,
+        ),
+        (
+            b".method virtual unsigned int8 M(uint16, int64, float32, bool, char, class D`2<!0, int32>, [x]System.ValueType) { }",
+            None,
+        ),
+        (
+            b".method virtual void M(void) { } .method virtual class int32 default() { } .method virtual instance instance virtual() { }",
+            None,
+        ),
+        (
+            b".method virtual void M() { { } .override I::M .override method instance !7 class I`1<!T>::M(!0) } .override method void I::N() with method instance void C::M() .override string::N with void C::M(!T)",
+            None,
+        ),
+        (
+            b".method virtual void M() { { .override } ; .class %%",
+            UNEXPECTED,
+        ),
+        (
+            b".method virtual void M() { .class .override I::M ( ) . { \"}\" } }",
+            None,
+        ),
+        (b".method static void M<T>(int32[]) ... { }", UNEXPECTED),
+        (b".method static void .ctor<T>(int32[]) { }", None),
+        (b".method void M() { { %%", UNEXPECTED),
+        (b".method virtual void M() { } }", UNEXPECTED),
+        (b".method virtual void M() . { }", UNEXPECTED),
+        (b".method virtual void M() .x { }", UNEXPECTED),
+        (b".method virtual void M() 'cil' { }", UNEXPECTED),
+        (b".method virtual void .ctor() { }", UNEXPECTED),
+        (b".method virtual void M(int32,) { }", UNEXPECTED),
+        (b".method virtual void M(,) { }", UNEXPECTED),
+        (b".method virtual void M(int32 x y) { }", UNEXPECTED),
+        (b".method virtual void M([in int32) { }", UNEXPECTED),
+        (b".method virtual void M() ;", UNEXPECTED),
+        (b".method virtual unsigned uint8 M() { }", UNEXPECTED),
+        (b".method virtual !2 M() { }", UNEXPECTED),
+        (b".method virtual !00 M() { }", UNEXPECTED),
+        (b".method virtual !V M() { }", UNEXPECTED),
+        (b".method virtual static void M() { }", UNEXPECTED),
+        (b".method abstract void M() { }", UNEXPECTED),
+        (b".override I::M", UNEXPECTED),
+        (b".override int32::M with void C::M()", UNEXPECTED),
+        (b".override !T::M with void C::M()", UNEXPECTED),
+        (b".override I::M<int32> with void C::M()", UNEXPECTED),
+        (b".override method !T I::M() with void C::M()", UNEXPECTED),
+        (b".override method !8 I::M() with void C::M()", UNEXPECTED),
+        (b".override method void I::M(!7) with !0 C::M(!1)", None),
+        (b".override method void I::M() with !2 C::M()", UNEXPECTED),
+        (
+            b".override method void I::M() with method void C::M",
+            UNEXPECTED,
+        ),
+        (b".module x", UNEXPECTED),
+        (b"int32", UNEXPECTED),
+        (b".namespace N { }", unsupported(Form::Namespace)),
+        (b".class D { }", unsupported(Form::Nested)),
+        (
+            b".method virtual void M(D/E) { }",
+            unsupported(Form::Nested),
+        ),
+        (
+            b".method virtual void M<T>() { }",
+            unsupported(Form::GenericMethod),
+        ),
+        (
+            b".method virtual !!0 M() { }",
+            unsupported(Form::GenericMethod),
+        ),
+        (b".method virtual int32[] M() { }", unsupported(Form::Array)),
+        (
+            b".method virtual void M(!T[]) { }",
+            unsupported(Form::Array),
+        ),
+        (
+            b".method virtual int32& M() { }",
+            unsupported(Form::Pointer),
+        ),
+        (
+            b".method virtual int32* M() { }",
+            unsupported(Form::Pointer),
+        ),
+        (
+            b".method virtual void M(method) { }",
+            unsupported(Form::Pointer),
+        ),
+        (
+            b".method virtual native int M() { }",
+            unsupported(Form::NativeInt),
+        ),
+        (
+            b".method virtual typedref M() { }",
+            unsupported(Form::TypedReference),
+        ),
+        (
+            b".method virtual int32 modreq(D) M() { }",
+            unsupported(Form::Modifier),
+        ),
+        (
+            b".method virtual int32 modopt(D) M() { }",
+            unsupported(Form::Modifier),
+        ),
+        (
+            b".method virtual int32 marshal(bool) M() { }",
+            unsupported(Form::Marshal),
+        ),
+        (
+            b".method virtual vararg void M() { }",
+            unsupported(Form::Vararg),
+        ),
+        (
+            b".method virtual instance default vararg void M() { }",
+            unsupported(Form::Vararg),
+        ),
+        (
+            b".method virtual void M(...) { }",
+            unsupported(Form::Vararg),
+        ),
+        (
+            b".override method vararg void I::M() with void C::M()",
+            unsupported(Form::Vararg),
+        ),
+        (
+            b".override method void [x]System.Object::M() with void C::M()",
+            None,
+        ),
+    ];
+    for (members, wanted) in cases {
+        assert_eq!(rt; of_members(rt.alloc(), members)?, wanted);
+    }
+    Ok(())
+}
+
+#[test]
+fn methods_of_interfaces_and_lines(rt: HostRuntime) -> Result<(), Fail> {
+    let cases: [(&[u8], Option<DeclError>); 14] = [
+        (b"", Some(DeclError::Unexpected { line: 1 })),
+        (b"vsd", Some(DeclError::Unexpected { line: 1 })),
+        (b"\nvsd 2 %%", Some(DeclError::Unexpected { line: 2 })),
+        (b"'vsd' 1 %%", Some(DeclError::Unexpected { line: 1 })),
+        (b"vsd 01 %%", Some(DeclError::Unexpected { line: 1 })),
+        (b"vsd\n1\n\n", Some(DeclError::Unexpected { line: 2 })),
+        (b"vsd 1 %% what stands here is not read } %%", None),
+        (
+            b"vsd 1\n.class interface public abstract I { .method public newslot virtual instance void M() cil managed { } }\n%%",
+            unsupported(Form::DefaultInterfaceMethod),
+        ),
+        (
+            b"vsd 1 .class interface I {\n.method static\nvoid M",
+            unsupported(Form::StaticInterfaceMethod),
+        ),
+        (
+            b"vsd 1 .class interface I {\n.method abstract\nvoid M",
+            UNEXPECTED,
+        ),
+        (
+            b"vsd 1 .class interface I {\n.method abstract static\nvoid M",
+            unsupported(Form::StaticInterfaceMethod),
+        ),
+        (
+            b"vsd 1 .class I {\n.method virtual static\nvoid M",
+            UNEXPECTED,
+        ),
+        (b"vsd 1\n.class A extends\n", UNEXPECTED),
+        (
+            b"vsd 1\n\n.class A<T> { .method virtual int32\n[] M() { } }\n%%",
+            Some(DeclError::Unsupported {
+                line: 4,
+                what: Form::Array,
+            }),
+        ),
+    ];
+    for (text, wanted) in cases {
+        assert_eq!(rt; refusal(rt.alloc(), text)?, wanted);
+    }
+    Ok(())
+}
+
+/// What stands before a piece that is repeated, the piece, what stands after it, how many times it may stand, and what
+/// one more shows.
+#[derive(Clone, Copy)]
+struct Limit {
+    before: &'static [u8],
+    piece: &'static [u8],
+    after: &'static [u8],
+    most: u32,
+    shows: Option<DeclError>,
+}
+
+const fn at_most(
+    before: &'static [u8],
+    piece: &'static [u8],
+    after: &'static [u8],
+    most: u32,
+    shows: Option<DeclError>,
+) -> Limit {
+    Limit {
+        before,
+        piece,
+        after,
+        most,
+        shows,
+    }
+}
+
+#[test]
+fn each_limit_and_one_past_it(rt: HostRuntime) -> Result<(), Fail> {
+    let cases: [Limit; 14] = [
+        at_most(b"", b".class A { }", b"", 1024, too_many(Counted::Types)),
+        at_most(
+            b".class A {",
+            b".method virtual B# M(C#, D#, E#, F#, G#, H#, I#) { }",
+            b"}",
+            255,
+            too_many(Counted::Names),
+        ),
+        at_most(
+            b".class A<",
+            b"T, ",
+            b"T> { }",
+            7,
+            too_many(Counted::Parameters),
+        ),
+        at_most(
+            b".class A implements ",
+            b"I, ",
+            b"I { }",
+            63,
+            too_many(Counted::Interfaces),
+        ),
+        at_most(
+            b".class A {",
+            b".method virtual void M() { }",
+            b"}",
+            256,
+            too_many(Counted::Methods),
+        ),
+        at_most(
+            b".class A {",
+            b".override I::M with void A::M()",
+            b"}",
+            256,
+            too_many(Counted::Overrides),
+        ),
+        at_most(
+            b".class A { .method virtual void M() {",
+            b" .override I::M",
+            b"} }",
+            256,
+            too_many(Counted::Overrides),
+        ),
+        at_most(
+            b".class A { .method virtual void M(",
+            b"A, ",
+            b"A) { } }",
+            15,
+            too_many(Counted::Arguments),
+        ),
+        at_most(
+            b".class A { .override method void I::M(",
+            b"A, ",
+            b"A) with void A::M() }",
+            15,
+            too_many(Counted::Arguments),
+        ),
+        at_most(b".class ", b"a", b" { }", 255, too_many(Counted::NameBytes)),
+        at_most(
+            b".class A<",
+            b"a",
+            b"> { }",
+            255,
+            too_many(Counted::NameBytes),
+        ),
+        at_most(
+            b".class A { .method virtual void ",
+            b"a",
+            b"() { } }",
+            255,
+            too_many(Counted::NameBytes),
+        ),
+        at_most(
+            b".class A extends ",
+            b"B`1<",
+            b"int32>>>>>>>>>>>>>>> { }",
+            15,
+            TOO_DEEP,
+        ),
+        at_most(
+            b".class A extends D<",
+            b"int32, ",
+            b"string> { }",
+            62,
+            TOO_DEEP,
+        ),
+    ];
+    for case in cases {
+        let whole = filled(rt.alloc(), case.piece, case.most)?;
+        let accepted = of_parts(rt.alloc(), [case.before, whole.as_slice(), case.after])?;
+        assert_eq!(rt; accepted, None);
+        let past = filled(rt.alloc(), case.piece, case.most + 1)?;
+        let refused = of_parts(rt.alloc(), [case.before, past.as_slice(), case.after])?;
+        assert_eq!(rt; refused, case.shows);
+    }
+    Ok(())
+}
+
+/// A refusal in the third line of a text.
+const fn unexpected() -> DeclError {
+    DeclError::Unexpected { line: 3 }
+}
+
+const fn form(what: Form) -> DeclError {
+    DeclError::Unsupported { line: 3, what }
+}
+
+const fn many(what: Counted) -> DeclError {
+    DeclError::TooMany { line: 3, what }
+}
+
+const fn deep() -> DeclError {
+    DeclError::TooDeep { line: 3 }
+}
+
+#[test]
+fn two_refusals_at_one_token(rt: HostRuntime) -> Result<(), Fail> {
+    let methods = filled(rt.alloc(), b".method virtual void M() { }", 256)?;
+    let named = filled(
+        rt.alloc(),
+        b".method virtual B# M(C#, D#, E#, F#, G#, H#, I#) { }",
+        255,
+    )?;
+    let nodes = filled(rt.alloc(), b"int32, ", 63)?;
+    let levels = filled(rt.alloc(), b"B<", 15)?;
+    let long = filled(rt.alloc(), b"a", 256)?;
+    let eight: [&[u8]; 2] = [b".class A<T, T, T, T, T, T, T, T", b",\n"];
+    let sixteen: [&[u8]; 2] = [
+        b".class A { .method virtual void M(A, A, A, A, A, A, A, A, A, A, A, A, A, A, A, A",
+        b",\n",
+    ];
+    let of_methods: [&[u8]; 2] = [b".class A {", methods.as_slice()];
+    let of_levels: [&[u8]; 2] = [b".class A extends ", levels.as_slice()];
+    let of_nodes: [&[u8]; 2] = [b".class A extends B<", nodes.as_slice()];
+    let of_names: [&[u8]; 2] = [b".class A {", named.as_slice()];
+    let cases: [([&[u8]; 2], &[u8], DeclError); 21] = [
+        (eight, b"T", many(Counted::Parameters)),
+        (eight, b"+ 1", many(Counted::Parameters)),
+        (eight, b">", unexpected()),
+        (eight, b"''", unexpected()),
+        (eight, b"class", form(Form::Constraint)),
+        (eight, long.as_slice(), many(Counted::Parameters)),
+        (sixteen, b"B", many(Counted::Arguments)),
+        (sixteen, b")", unexpected()),
+        (sixteen, b"...", form(Form::Vararg)),
+        (sixteen, b"System.Delegate", form(Form::Delegate)),
+        (sixteen, long.as_slice(), many(Counted::Arguments)),
+        (
+            of_methods,
+            b"\n.method virtual void M",
+            many(Counted::Methods),
+        ),
+        (of_methods, b"\n.method virtual static", unexpected()),
+        (of_methods, b"\n.method public abstract", unexpected()),
+        (of_levels, b"B\n<", deep()),
+        (of_levels, b"B\n[", form(Form::Array)),
+        (of_levels, b"B\n/", form(Form::Nested)),
+        (of_nodes, b"\nint32", deep()),
+        (of_nodes, b"\nA", deep()),
+        (
+            of_nodes,
+            long.as_slice(),
+            DeclError::TooMany {
+                line: 2,
+                what: Counted::NameBytes,
+            },
+        ),
+        (
+            of_names,
+            b".method virtual void M(A, A0, A1, A2, A3, A4, A5, A6,\nA7",
+            many(Counted::Names),
+        ),
+    ];
+    for (before, after, wanted) in cases {
+        let [first, second] = before;
+        assert_eq!(rt; of_parts(rt.alloc(), [first, second, after])?, Some(wanted));
+    }
+    Ok(())
+}
+
+const LONG: &[u8] = b"vsd 1
+.assembly extern System.Runtime { .publickeytoken = (B0 3F 5F 7F 11 D5 0A 3A ) .ver 8:0:0:0 }
+.assembly Shapes { .hash algorithm 0x00008004 .ver 1:0:0:0 }
+.module Shapes.dll
+// MVID: {11111111-2222-3333-4444-555555555555}
+.imagebase 0x00400000
+.class interface public abstract auto ansi beforefieldinit IShape
+{
+  .method public hidebysig newslot abstract virtual
+          instance int32 Sides() cil managed
+  {
+  } // end of method IShape::Sides
+}
+.class public auto ansi beforefieldinit Square
+       extends [System.Runtime]System.Object
+       implements IShape
+{
+  .field private int32 n
+  .method public hidebysig newslot virtual final
+          instance int32 Sides() cil managed
+  {
+    .maxstack 8
+    IL_0000: ldc.i4.4
+    IL_0001: ret
+  }
+  .method public hidebysig specialname rtspecialname
+          instance void .ctor() cil managed
+  {
+    .maxstack 8
+    IL_0000: ldarg.0
+    IL_0001: call instance void [System.Runtime]System.Object::.ctor()
+    IL_0006: ret
+  }
+}
+%%
+site s = IShape::Sides; host q = Square; lane { call s q; }
+";
+
+#[test]
+fn the_trees_of_a_longer_text(rt: HostRuntime) -> Result<(), Fail> {
+    let tokens = lex(rt.alloc(), LONG)?;
+    let decls = read_decls(rt.alloc(), LONG, tokens.as_slice())?;
+    let Decls { names, list, rest } = decls;
+    assert_eq!(rt; names.len(), 2);
+    assert_eq!(rt; names.name(0), b"IShape".as_slice());
+    assert_eq!(rt; names.name(1), b"Square".as_slice());
+    assert_eq!(rt; tokens[rest as usize].line, 36);
+    assert_eq!(rt; list.len(), 2);
+    let shape = &list.as_slice()[0];
+    assert!(rt; shape.is_interface && shape.is_abstract && !shape.sealed && shape.base.is_none());
+    assert_eq!(rt; shape.line, 7);
+    let square = &list.as_slice()[1];
+    assert!(rt; !square.is_interface && square.name == 1 && square.line == 14);
+    assert_eq!(rt; square.interfaces.as_slice()[0].line, 16);
+    assert_eq!(rt; square.methods.len(), 1);
+    let sides = &square.methods.as_slice()[0];
+    assert!(rt; sides.newslot && sides.is_final && !sides.is_abstract && sides.line == 19);
+    assert_eq!(rt; sides.access, Access::Public);
+    assert_eq!(rt; sides.name.as_slice(), b"Sides".as_slice());
+    assert!(rt; is_builtin(&sides.signature.result, Builtin::Int32));
+    Ok(())
+}
+
+fn is_builtin(term: &Option<Term>, wanted: Builtin) -> bool {
+    match term {
+        Some(Term::Builtin(builtin)) => *builtin == wanted,
+        _ => false,
+    }
+}
+
+const GENERIC: &[u8] = b"vsd 1 .class public sealed C`2<+ T, - U, V> extends [x]System.ValueType
+implements class I`1<!U>, J { .method private public virtual valuetype K`1<!2> M(string, !T) { { }
+.override method !1 I`1<!U>::N(!0) } .method family virtual void O() { }
+.override J::N with instance !0 class C::O() } %%";
+
+#[test]
+fn the_trees_of_parameters_and_overrides(rt: HostRuntime) -> Result<(), Fail> {
+    let tokens = lex(rt.alloc(), GENERIC)?;
+    let Decls { names, list, rest } = read_decls(rt.alloc(), GENERIC, tokens.as_slice())?;
+    assert_eq!(rt; rest as usize, tokens.len());
+    assert_eq!(rt; names.len(), 5);
+    assert_eq!(rt; names.name(3), b"K`1".as_slice());
+    let decl = &list.as_slice()[0];
+    let signs = [Sign::Plus, Sign::Minus, Sign::Plain];
+    for (param, sign) in decl.params.as_slice().iter().zip(signs) {
+        assert_eq!(rt; param.sign, sign);
+    }
+    assert_eq!(rt; decl.interfaces.len(), 2);
+    assert!(rt; names_parameter(&decl.interfaces.as_slice()[0].term, 1, 1));
+    assert_eq!(rt; decl.methods.len(), 2);
+    let method = &decl.methods.as_slice()[0];
+    assert!(rt; method.access == Access::Public && !method.newslot);
+    assert!(rt; method.signature.result.as_ref().is_some_and(names_second));
+    assert_eq!(rt; method.signature.arguments.len(), 2);
+    assert_eq!(rt; decl.methods.as_slice()[1].access, Access::Other);
+    assert_eq!(rt; decl.overrides.len(), 2);
+    let own = &decl.overrides.as_slice()[0];
+    assert!(rt; is_own(&own.body, 0) && own.signature.is_some() && own.line == 3);
+    let named = &decl.overrides.as_slice()[1];
+    assert!(rt; !is_own(&named.body, 0) && named.signature.is_none() && named.line == 4);
+    Ok(())
+}
+
+/// Whether the term is the named type of this number with this parameter as its first argument.
+fn names_parameter(term: &Term, number: u16, place: u8) -> bool {
+    match term {
+        Term::Named { name, args } => match args.as_slice() {
+            [Term::Param(found)] => *name == number && *found == place,
+            _ => false,
+        },
+        _ => false,
+    }
+}
+
+fn names_second(term: &Term) -> bool {
+    names_parameter(term, 3, 2)
+}
+
+fn is_own(body: &Implementer, place: u16) -> bool {
+    match body {
+        Implementer::Own(own) => *own == place,
+        Implementer::Named { .. } => false,
+    }
+}
