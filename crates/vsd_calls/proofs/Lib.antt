@@ -4,3 +4,4 @@ pub mod Stubbing
 pub mod Walks
 pub mod CallsMade
 pub mod Logging
+pub mod Showing

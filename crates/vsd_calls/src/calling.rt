@@ -16,6 +16,7 @@ ghost use Rattle.vsd_rows.specs.Logged.{LogsOne};
 ghost use Rattle.vsd_rows.specs.Leaving.{Stays};
 ghost use Rattle.vsd_handles.specs.OwnRows.{IsSure};
 ghost use Rattle.vsd_calls.specs.Parts.{resolving};
+ghost use Rattle.vsd_calls.specs.Shown.{ShowsPath, ShowsBucket, ShowsCell, ShowsSweep};
 
 use crate::installing::install;
 use crate::stubs::{CellLook, stub};
@@ -51,6 +52,10 @@ pub fn call<R: Resolver>(
     ensures trail { Makes hand.old.seated hand.new.seated (calling (key_of table.now) site h) result }
     ensures logged { LogsOne (key_of table.now) hand.old.seated hand.new.seated (called site h result)
         (52 + (key_of table.now).sizes.callers) }
+    ensures path { ShowsPath (key_of table.now) site h hand.old.seated hand.new.seated result }
+    ensures bucket { ShowsBucket (key_of table.now) site h hand.old.seated hand.new.seated result }
+    ensures cell { ShowsCell (key_of table.now) site h hand.old.seated hand.new.seated result }
+    ensures sweep { ShowsSweep (key_of table.now) hand.old.seated hand.new.seated }
     ensures complete { IsSure (view_of hand.old.seated) h → IsOk result }
     ensures evidence { IfOk result (λ a. HasEvidence (view_of hand.new.seated) h token a.target) }
     ensures world { IfOk result (λ a. (number : ℕ) → Knows (view_of hand.new.seated).handles h number

@@ -10,6 +10,7 @@ use Rattle.vsd_table.specs.Seating.{view_of, key_of}
 use Rattle.vsd_trails.specs.declared.answers.Answer.{Answer}
 use Rattle.vsd_rows.proofs.Leaving.{evidence_stays}
 use Rattle.vsd_calls.proofs.Logging.{logs_call}
+use Rattle.vsd_calls.proofs.Showing.{shows_path, shows_bucket, shows_cell, shows_sweep}
 use Rattle.vsd_calls.proofs.CallsMade.{calls, cell_named, sweeps_go, reads_go, pins_owned, told_on, agrees_on}
 use Rattle.vsd_calls.proofs.calling.call.Goals as goal
 
@@ -80,5 +81,29 @@ returns-clause-complete g c = λ sure.
 pub returns-clause-logged : goal.returns-clause-logged
 returns-clause-logged g c =
     logs_call (key_of c.args.table.now) c.args.site c.args.h c.args.hand.now.seated c.sweep.new.hand.seated c.answer-answer.result c.requires.seat.key
+    (calls (key_of c.args.table.now) c.args.site c.args.h _ _ _ _ _ _ c.read-cell.result c.answer-answer.result c.sweep.result
+    c.pin.ensures.trail c.read-cell.ensures.trail c.answer-answer.ensures.trail c.unpin.ensures.trail c.sweep.ensures.trail)
+
+pub returns-clause-path : goal.returns-clause-path
+returns-clause-path g c =
+    shows_path (key_of c.args.table.now) c.args.site c.args.h c.args.hand.now.seated c.sweep.new.hand.seated c.answer-answer.result c.requires.seat.key
+    (calls (key_of c.args.table.now) c.args.site c.args.h _ _ _ _ _ _ c.read-cell.result c.answer-answer.result c.sweep.result
+    c.pin.ensures.trail c.read-cell.ensures.trail c.answer-answer.ensures.trail c.unpin.ensures.trail c.sweep.ensures.trail)
+
+pub returns-clause-bucket : goal.returns-clause-bucket
+returns-clause-bucket g c =
+    shows_bucket (key_of c.args.table.now) c.args.site c.args.h c.args.hand.now.seated c.sweep.new.hand.seated c.answer-answer.result c.requires.seat.key
+    (calls (key_of c.args.table.now) c.args.site c.args.h _ _ _ _ _ _ c.read-cell.result c.answer-answer.result c.sweep.result
+    c.pin.ensures.trail c.read-cell.ensures.trail c.answer-answer.ensures.trail c.unpin.ensures.trail c.sweep.ensures.trail)
+
+pub returns-clause-cell : goal.returns-clause-cell
+returns-clause-cell g c =
+    shows_cell (key_of c.args.table.now) c.args.site c.args.h c.args.hand.now.seated c.sweep.new.hand.seated c.answer-answer.result c.requires.seat.key
+    (calls (key_of c.args.table.now) c.args.site c.args.h _ _ _ _ _ _ c.read-cell.result c.answer-answer.result c.sweep.result
+    c.pin.ensures.trail c.read-cell.ensures.trail c.answer-answer.ensures.trail c.unpin.ensures.trail c.sweep.ensures.trail)
+
+pub returns-clause-sweep : goal.returns-clause-sweep
+returns-clause-sweep g c =
+    shows_sweep (key_of c.args.table.now) c.args.site c.args.h c.args.hand.now.seated c.sweep.new.hand.seated c.answer-answer.result c.requires.seat.key
     (calls (key_of c.args.table.now) c.args.site c.args.h _ _ _ _ _ _ c.read-cell.result c.answer-answer.result c.sweep.result
     c.pin.ensures.trail c.read-cell.ensures.trail c.answer-answer.ensures.trail c.unpin.ensures.trail c.sweep.ensures.trail)
