@@ -1,0 +1,5 @@
+-- The lemmas.
+pub mod PartsMade
+pub mod Leaving
+pub mod Purging
+pub mod Owning
