@@ -1,17 +1,29 @@
 -- What an unload has done: to cells and buckets, to limbo, and to what its caller knows of handles.
-use Rattle.std.specs.Prelude.{◌≡◌, ℕ, ◌<◌, false, List, slice_set}
+use Rattle.std.specs.Prelude.{◌≡◌, ℕ, ◌<◌, false, List, ◌∷◌, slice_set}
 use Rattle.vsd_words.specs.declared.handle.Handle.{Handle}
 use Rattle.vsd_rule.specs.declared.key.Key.{Key}
+use Rattle.vsd_rule.specs.declared.step.Act.TheVariants.{Epoch, Pin, Unbind}
 use Rattle.vsd_rule.specs.declared.view.View.{View}
 use Rattle.vsd_rule.specs.Handles.{own_word}
 use Rattle.vsd_rule.specs.Moves.{own_index}
 use Rattle.vsd_rule.specs.Facts.{IsOwn}
 use Rattle.vsd_table.specs.declared.seated.Seated.{Seated}
-use Rattle.vsd_trails.specs.Programs.{TrailStep, onto}
+use Rattle.vsd_trails.specs.Programs.{TrailStep, asked_act, onto}
 use Rattle.vsd_trails.specs.Words.{is_live_at}
 use Rattle.vsd_trails.specs.Attempts.{SweepsAtEnd, PurgesCell, PurgesBucket}
 use Rattle.vsd_rows.specs.Makes.{steps_of, fields_of}
 use Rattle.vsd_handles.specs.OwnRows.{own_row_word}
+
+-- The steps that the seat made begin with the load of the epoch, the pin at it, and the store of the handle word, not live.
+pub record StoresFirst (h : Handle) (old new : Seated) : Type 0 where
+  pub epoch : TrailStep
+  pub pin : TrailStep
+  pub store : TrailStep
+  pub rest : List TrailStep
+  pub made : steps_of new ≡ onto (epoch ∷ pin ∷ store ∷ rest) (steps_of old)
+  pub epoch_is : epoch.step.act ≡ Epoch
+  pub pin_is : pin.step.act ≡ Pin epoch.step.found
+  pub store_is : asked_act store.step.act ≡ Unbind h.row h.generation 0
 
 -- The steps that the seat made have for each site and each bucket a load of it. That load, or the one of the handle of the row that it
 -- names, shows that it does not hold the handle; or limbo had no room; or the next step tried to take the row out.

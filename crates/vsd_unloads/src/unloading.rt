@@ -9,7 +9,7 @@ ghost use Rattle.vsd_rows.specs.Makes.{Makes};
 ghost use Rattle.vsd_rows.specs.Logged.{LogsOne};
 ghost use Rattle.vsd_handles.specs.Owned.{AreWordsOf};
 ghost use Rattle.vsd_handles.specs.OwnRows.{IsOwned, own_row_word};
-ghost use Rattle.vsd_unloads.specs.Unloads.{PurgesAll, SweepsOldest, IsUnloaded, LetsGo};
+ghost use Rattle.vsd_unloads.specs.Unloads.{StoresFirst, PurgesAll, SweepsOldest, IsUnloaded, LetsGo};
 
 use crate::buckets::purge_buckets;
 use crate::cells::purge_cells;
@@ -32,6 +32,7 @@ pub fn unload(table: &Shared, hand: &mut Hand, owned: &mut Owned, h: Handle)
     ensures trail { Makes hand.old.seated hand.new.seated (unloading (key_of table.now) h) tt }
     ensures logged { LogsOne (key_of table.now) hand.old.seated hand.new.seated (unloaded h)
         (5 + (key_of table.now).sizes.callers + 5 * ((key_of table.now).sizes.sites + (key_of table.now).sizes.buckets)) }
+    ensures first { StoresFirst h hand.old.seated hand.new.seated }
     ensures purges { PurgesAll (key_of table.now) h hand.old.seated hand.new.seated }
     ensures sweeps { SweepsOldest (key_of table.now) hand.old.seated hand.new.seated }
 

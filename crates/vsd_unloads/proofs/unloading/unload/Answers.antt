@@ -5,7 +5,7 @@ use Rattle.vsd_rule.specs.declared.view.View.{View}
 use Rattle.vsd_table.specs.Seating.{view_of, key_of}
 use Rattle.vsd_handles.specs.OwnRows.{own_row_word}
 use Rattle.vsd_unloads.proofs.PartsMade.{unloads}
-use Rattle.vsd_unloads.proofs.Purging.{logs_unload, purges_all, sweeps_oldest}
+use Rattle.vsd_unloads.proofs.Purging.{logs_unload, stores_first, purges_all, sweeps_oldest}
 use Rattle.vsd_unloads.proofs.Owning.{own_on, owned_on, pins_handles, sweeps_go, handles_after, lets_go, word_after, is_unloaded, owns_others}
 use Rattle.vsd_unloads.proofs.unloading.unload.Goals as goal
 
@@ -36,6 +36,12 @@ returns-clause-trail c =
 pub returns-clause-logged : goal.returns-clause-logged
 returns-clause-logged c =
     logs_unload (key_of c.args.table.now) c.args.h c.args.hand.now.seated c.sweep.new.hand.seated c.requires.seat.key
+    (unloads c.args.h (key_of c.args.table.now) _ _ _ _ _ _ _ c.sweep.result
+    c.pin.ensures.trail c.unbind.ensures.trail c.purge_cells.ensures.trail c.purge_buckets.ensures.trail c.unpin.ensures.trail c.sweep.ensures.trail)
+
+pub returns-clause-first : goal.returns-clause-first
+returns-clause-first c =
+    stores_first (key_of c.args.table.now) c.args.h c.args.hand.now.seated c.sweep.new.hand.seated c.requires.seat.key
     (unloads c.args.h (key_of c.args.table.now) _ _ _ _ _ _ _ c.sweep.result
     c.pin.ensures.trail c.unbind.ensures.trail c.purge_cells.ensures.trail c.purge_buckets.ensures.trail c.unpin.ensures.trail c.sweep.ensures.trail)
 
