@@ -1,5 +1,5 @@
 -- The log of a caller, with the reasons for its answers, as operations make it longer.
-use Rattle.std.proofs.Common.{◌≡◌, ℕ, Bool, List, [], ◌∷◌, None, Result, Ok, Err, IfOk, inl, inr, refl, sym, ◌∙◌, subst}
+use Rattle.std.proofs.Common.{◌≡◌, ℕ, Bool, List, [], ◌∷◌, Result, Ok, Err, IfOk, inl, inr, refl, sym, ◌∙◌, subst}
 use Rattle.std.specs.Int.{from_bool}
 use Rattle.vsd_words.specs.declared.handle.Handle.{Handle}
 use Rattle.vsd_rule.specs.declared.key.Key.{Key}
@@ -14,15 +14,13 @@ use Rattle.vsd_trails.specs.declared.answers.CastAnswer.{CastAnswer}
 use Rattle.vsd_trails.specs.declared.answers.Unloaded.{Unloaded}
 use Rattle.vsd_trails.specs.Programs.{TrailStep, Runs}
 use Rattle.vsd_trails.specs.RowTrails.{typing}
-use Rattle.vsd_trails.specs.UnloadTrails.{binding, unbinding}
+use Rattle.vsd_trails.specs.UnloadTrails.{binding}
 use Rattle.vsd_trails.specs.Logs.{Entry}
-use Rattle.vsd_trails.specs.Operations.{Event, called, cast_to, loaded, unloaded, begun, trail_steps}
+use Rattle.vsd_trails.specs.Operations.{Event, called, cast_to, loaded, unloaded, trail_steps}
 use Rattle.vsd_trails.specs.Laws.{HasLog}
-use Rattle.vsd_trails.proofs.Runs.{is_bounded, makes_only}
-use Rattle.vsd_trails.proofs.Asking.{Only, one}
+use Rattle.vsd_trails.proofs.Runs.{is_bounded}
 use Rattle.vsd_trails.proofs.CallBounds.{at_binding}
 use Rattle.vsd_trails.proofs.Entries.{adds_load, learn_adds_nothing}
-use Rattle.vsd_trails.proofs.Logs.{passed_over}
 use Rattle.vsd_rows.specs.Makes.{steps_of, fields_of, StaysCaller, Makes}
 use Rattle.vsd_rows.specs.Logged.{LogsOne}
 use Rattle.vsd_rows.proofs.Makes.{in_grown, knows_on, evidence_on}
@@ -114,13 +112,3 @@ pub logs_learn : (k : Key) (h : Handle) (old new : Seated) (a : Result ℕ Unloa
 logs_learn k h old new a key makes entries log =
     subst (λ (l : List TrailStep). HasLog k l entries) (sym makes.made)
     (learn_adds_nothing k h (fields_of old) makes.trail a entries (steps_of old) log (subst (λ (q : Key). Runs q (fields_of old) (typing h) makes.trail a) key makes.runs))
-
--- the one store of a handle word by itself belongs to no operation
-unbind_asks : (k : Key) (h : Handle) → Only (λ c. begun k c ≡ None) (unbinding h)
-unbind_asks k h = one (λ c. begun k c ≡ None) refl
-
-pub logs_unbind : (k : Key) (h : Handle) (old new : Seated) → (view_of old).key ≡ k → Makes old new (unbinding h) tt → (entries : List (Entry Event)) → HasLog k (steps_of old) entries → HasLog k (steps_of new) entries
-logs_unbind k h old new key makes entries log =
-    let runs = subst (λ (q : Key). Runs q (fields_of old) (unbinding h) makes.trail tt) key makes.runs in
-    subst (λ (l : List TrailStep). HasLog k l entries) (sym makes.made)
-    (passed_over Event k (begun k) makes.trail (steps_of old) entries (makes_only (λ c. begun k c ≡ None) k (fields_of old) (unbinding h) makes.trail tt (unbind_asks k h).only runs) log)

@@ -1,23 +1,24 @@
 //! Handles through a runtime: loading, learning and unloading types.
-ghost use Rattle.std.specs.Prelude.{◌≡◌, ◌≢◌, ◌<◌, ◌↔◌, ℕ, IfOk, IsOk, IsErr, OnErr, IsTrue, Ok, None, List, position};
+ghost use Rattle.std.specs.Prelude.{◌≡◌, ◌≢◌, ◌<◌, ◌+◌, ◌*◌, ◌↔◌, ℕ, IfOk, IsOk, IsErr, OnErr, IsTrue, Ok, None, List, position};
 ghost use Rattle.vsd_words.specs.declared.handle.Handle.{Handle};
 ghost use Rattle.vsd_rule.specs.Lists.{host_type};
 ghost use Rattle.vsd_rule.specs.Facts.{Knows, IsOwn};
 ghost use Rattle.vsd_trails.specs.RowTrails.{typing};
-ghost use Rattle.vsd_trails.specs.UnloadTrails.{binding, unbinding};
+ghost use Rattle.vsd_trails.specs.UnloadTrails.{binding, unloading};
 ghost use Rattle.vsd_trails.specs.Logs.{Entry};
-ghost use Rattle.vsd_trails.specs.Operations.{Event, loaded};
+ghost use Rattle.vsd_trails.specs.Operations.{Event, loaded, unloaded};
 ghost use Rattle.vsd_trails.specs.declared.answers.Unloaded.{Unloaded};
 ghost use Rattle.vsd_rows.specs.Makes.{Makes};
 ghost use Rattle.vsd_rows.specs.Logged.{LogsOne};
 ghost use Rattle.vsd_handles.specs.OwnRows.{IsOwned, is_spare};
+ghost use Rattle.vsd_unloads.specs.Unloads.{StoresFirst, PurgesAll, SweepsOldest};
 ghost use Rattle.vsd_core.specs.Callers.{seat_of, known_by, LogIs};
 ghost use Rattle.vsd_core.specs.Runtimes.{fixed_in, IsCallerOf, HasHandle, IsHost};
 ghost use Rattle.vsd_core.specs.Owning.{IsPast, KeepsHandles, LosesHandle, HasNoSpare};
 
 use crate::caller::Caller;
 use crate::runtime::Runtime;
-use vsd_handles::{HandlesFull, bind, owns, type_of, unbind};
+use vsd_handles::{HandlesFull, bind, owns, type_of};
 use vsd_rule::Resolver;
 use vsd_trails::Unloaded;
 use vsd_words::Handle;
@@ -44,16 +45,23 @@ impl<R: Resolver> Runtime<R> {
         bind(&self.table, &mut who.hand, &mut who.owned, t)
     }
 
-    /// Unloads a handle that the caller owns: it names nothing any more, and never will again.
+    /// Unloads a handle that the caller owns: it names nothing any more, and never will again. Then every
+    /// cell and every bucket that names a row of the handle gives it back, as far as the caller's limbo has
+    /// room and no other caller is first.
     pub fn unload(&self, who: &mut Caller, h: Handle)
         requires caller { IsCallerOf self.now who.old }
         requires owned { IsOwned (known_by who.old) h }
-        ensures trail { Makes (seat_of who.old) (seat_of who.new) (unbinding h) tt }
-        ensures log { (entries : List (Entry Event)) → LogIs (fixed_in self.now) who.old entries → LogIs (fixed_in self.now) who.new entries }
+        ensures trail { Makes (seat_of who.old) (seat_of who.new) (unloading (fixed_in self.now) h) tt }
+        ensures logged { LogsOne (fixed_in self.now) (seat_of who.old) (seat_of who.new) (unloaded h)
+            (5 + (fixed_in self.now).sizes.callers + 5 * ((fixed_in self.now).sizes.sites + (fixed_in self.now).sizes.buckets)) }
+        ensures first { StoresFirst h (seat_of who.old) (seat_of who.new) }
+        ensures purges { PurgesAll (fixed_in self.now) h (seat_of who.old) (seat_of who.new) }
+        ensures sweeps { SweepsOldest (fixed_in self.now) (seat_of who.old) (seat_of who.new) }
+        ensures owned { (g : Handle) → IsOwned (known_by who.new) g ↔ (IsOwned (known_by who.old) g × (g ≢ h)) }
         ensures loses { LosesHandle (known_by who.old) (known_by who.new) h }
         ensures caller { IsCallerOf self.now who.new }
     {
-        unbind(&self.table, &mut who.hand, &mut who.owned, h);
+        vsd_unloads::unload(&self.table, &mut who.hand, &mut who.owned, h);
     }
 
     /// The number of the type that the handle names now, by one load of its handle word.

@@ -9,7 +9,7 @@
 //!   load    bind a handle to a type                        one step
 //!   call    the method that a site means on a handle       the cell, the bucket, or the resolver
 //!   learn   the type that a handle names                   one step
-//!   unload  the handle names nothing any more
+//!   unload  the handle names nothing any more           a store, then each cell and bucket is purged
 //!   owns    whether the caller loaded the handle and has not unloaded it    no step
 //! ```
 //!

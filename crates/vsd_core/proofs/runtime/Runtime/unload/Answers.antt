@@ -1,8 +1,12 @@
-use Rattle.std.proofs.Common.{ap, ◌∙◌}
+use Rattle.std.proofs.Common.{false, refl, ap}
 use Rattle.std.proofs.Math.Logic.{∥∥₁_map}
-use Rattle.vsd_rule.specs.declared.view.View.{View}
-use Rattle.vsd_table.specs.Seating.{key_of}
-use Rattle.vsd_core.proofs.Resting.{rests_same, logs_unbind}
+use Rattle.vsd_rule.specs.declared.handle_view.HandleView.{HandleView}
+use Rattle.vsd_rule.specs.Handles.{own_word}
+use Rattle.vsd_table.specs.Seating.{key_of, view_of}
+use Rattle.vsd_trails.specs.Operations.{unloaded}
+use Rattle.vsd_handles.specs.OwnRows.{own_row_word}
+use Rattle.vsd_core.proofs.Resting.{rests_one}
+use Rattle.vsd_core.proofs.Owning.{loses}
 use Rattle.vsd_core.proofs.runtime.Runtime.unload.Goals as goal
 
 pub invariant_of-who : goal.invariant_of-who
@@ -10,8 +14,14 @@ invariant_of-who g c =
     let before = c.args.who.now in
     let key = key_of c.args.self.now.table in
     record {
-      words = c.unbind.ensures.words;
-      unpinned = ap (λ (v : View). v.rows.pinned) c.unbind.ensures.step.view ∙ before.unpinned;
-      rests = ∥∥₁_map before.rests (rests_same key before.hand.seated c.unbind.new.hand.seated c.requires.caller.key c.unbind.ensures.trail.stays
-          (logs_unbind key c.args.h before.hand.seated c.unbind.new.hand.seated c.requires.caller.key c.unbind.ensures.trail));
+      words = c.unload.ensures.words;
+      unpinned = c.unload.ensures.unpinned;
+      rests = ∥∥₁_map before.rests (rests_one key before.hand.seated c.unload.new.hand.seated (unloaded c.args.h) _ c.requires.caller.key c.unload.ensures.trail.stays c.unload.ensures.logged tt);
     }
+
+pub returns-clause-loses : goal.returns-clause-loses
+returns-clause-loses g c =
+    let h = c.args.h in
+    let old = view_of c.args.who.now.hand.seated in
+    let stays = c.unload.ensures.trail.stays in
+    loses old (view_of c.unload.new.hand.seated) stays.key stays.who h.row (own_word h.generation (own_row_word old h.row).number false) (ap (λ (n : HandleView). n.owned) c.unload.ensures.handles) h refl c.requires.owned c.unload.ensures.word refl refl
