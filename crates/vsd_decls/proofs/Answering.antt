@@ -1,13 +1,11 @@
 -- What the reader answers, from what the productions read.
-use Rattle.std.proofs.Common.{◌≡◌, ℕ, Bool, IsTrue, List, Option, Some, Result, Ok, Err, IfOk, IfErr, IfSome, refl, ap, sym, subst, ◌∙◌}
+use Rattle.std.proofs.Common.{◌≡◌, ℕ, IsTrue, List, Ok, Err, refl, ap, sym, subst, ◌∙◌}
 use Rattle.vsd_text.specs.declared.tokens.Token.{Token}
 use Rattle.vsd_ast.specs.declared.declarations.Decl.{Decl}
 use Rattle.vsd_ast.specs.declared.declarations.Decls.{Decls}
-use Rattle.vsd_grammar.specs.declared.cause.Cause.{Cause}
 use Rattle.vsd_grammar.specs.declared.syntax_error.SyntaxError.{SyntaxError}
 use Rattle.vsd_grammar.specs.Input.{Input}
-use Rattle.vsd_grammar.specs.Grammar.{Outcome, run, Derives}
-use Rattle.vsd_grammar.specs.Place.{line_of}
+use Rattle.vsd_grammar.specs.Grammar.{run}
 use Rattle.vsd_grammar.proofs.Outcomes.{ok_parts, err_ok}
 use Rattle.vsd_grammar.proofs.Soundness.{sound}
 use Rattle.vsd_grammar.proofs.Completeness.{complete}
@@ -15,11 +13,8 @@ use Rattle.vsd_grammar.proofs.Consequences.{dead}
 use Rattle.vsd_grammar.proofs.Refusals.{Holds, holds}
 use Rattle.vsd_grammar.proofs.Behaving.{grows}
 use Rattle.vsd_decl_syntax.specs.Causes.{is_decl_cause}
-use Rattle.vsd_decls.specs.declared.errors.DeclError.{DeclError}
-use Rattle.vsd_decls.specs.declared.errors.DeclError.TheVariants as error
-use Rattle.vsd_decls.specs.Refusals.{refusal_of}
 use Rattle.vsd_decls.specs.Grammar.{declarations}
-use Rattle.vsd_decls.specs.Declarations.{beginning, AreDeclarations, IsOnly, IsFirstRefusal, IsDead, anything, decls_of}
+use Rattle.vsd_decls.specs.Declarations.{beginning, AreDeclarations, IsDead, anything, decls_of}
 use Rattle.vsd_decls.proofs.Behaving.{declarations_pass}
 use Rattle.vsd_decls.proofs.Deciding.{decides_declarations}
 

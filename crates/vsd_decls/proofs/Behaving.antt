@@ -1,8 +1,6 @@
 -- How a text's declarations behave: each cause is one of theirs.
-use Rattle.std.proofs.Common.{◌≡◌, ℕ, nat_lt, Bool, true, false, IsTrue, List, length, refl}
+use Rattle.std.proofs.Common.{nat_lt, Bool, true, false, IsTrue, List, length, refl}
 use Rattle.vsd_ast.specs.declared.declarations.Decl.{Decl}
-use Rattle.vsd_grammar.specs.declared.cause.Cause.{Cause}
-use Rattle.vsd_grammar.specs.declared.cause.Cause.TheVariants.{Unexpected, Unsupported}
 use Rattle.vsd_grammar.specs.declared.keyword.Keyword.{Keyword}
 use Rattle.vsd_grammar.specs.declared.keyword.Keyword.TheVariants as key
 use Rattle.vsd_grammar.specs.declared.token_class.TokenClass.{TokenClass}

@@ -1,5 +1,5 @@
 -- A text's declarations are read in one way.
-use Rattle.std.proofs.Common.{ℕ, nat_lt, Bool, true, false, List, length, refl}
+use Rattle.std.proofs.Common.{nat_lt, Bool, true, false, List, length, refl}
 use Rattle.vsd_ast.specs.declared.declarations.Decl.{Decl}
 use Rattle.vsd_grammar.specs.declared.keyword.Keyword.TheVariants as key
 use Rattle.vsd_grammar.specs.declared.token_class.TokenClass.{TokenClass}

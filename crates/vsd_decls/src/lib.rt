@@ -8,7 +8,7 @@ mod reading;
 mod texts;
 
 pub use errors::DeclError;
-pub use laws::declarations_are_decided;
+pub use laws::{declarations_are_decided, declarations_are_well_formed};
 pub use reading::read_decls;
 pub use texts::{counted_text, form_text};
 pub use vsd_grammar::{Counted, Form};

@@ -28,6 +28,7 @@ pub fn read_decls(alloc: Global, text: &[u8], tokens: &[Token]) -> Result<Decls,
     requires few { length tokens.now ≤ most_tokens }
     ensures found { IfOk result (AreDeclarations text.now tokens.now) }
     ensures only { (d : Decls) → AreDeclarations text.now tokens.now d → IsOnly d result }
+    ensures formed { IfOk result AreWellFormed }
     ensures refused { IfErr result (λ e. IfSome (refusal_of e) (IsFirstRefusal text.now tokens.now)) }
     ensures dead { IsDead text.now tokens.now }
 {
