@@ -1,7 +1,8 @@
 -- What passes that show nothing tell.
-use Rattle.std.proofs.Common.{◌≡◌, ℕ, ◌<◌, List, Some, None, inl, inr, refl, sym, ap, ◌∙◌, arith, Contains}
+use Rattle.std.proofs.Common.{◌≡◌, ℕ, ◌<◌, Bool, true, false, ◌||◌, List, [], ◌∷◌, get_or, Some, None, inl, inr, refl, sym, ap, ◌∙◌, arith, Contains}
 use Rattle.std.specs.List.{slice_get}
-use Rattle.std.proofs.lemmas.Bool.{cases_order}
+use Rattle.std.specs.Bool.{Decides}
+use Rattle.std.proofs.lemmas.Bool.{cases_order, false≢true}
 use Rattle.std.proofs.lemmas.Option.{slice_get-get_or}
 use Rattle.vsd_ast.specs.Hierarchy.{above, AreDepths, IsHierarchy}
 use Rattle.vsd_ast.specs.Lookup.{head_of}
@@ -9,16 +10,22 @@ use Rattle.vsd_ast.specs.WellFormed.{AreWellFormed}
 use Rattle.vsd_ast.specs.declared.declarations.Decl.{Decl}
 use Rattle.vsd_ast.specs.declared.declarations.Decls.{Decls}
 use Rattle.vsd_ast.specs.declared.declarations.Located.{Located}
+use Rattle.vsd_ast.specs.declared.declarations.Override.{Override}
 use Rattle.vsd_graph.specs.Graph.{IsCyclic}
 use Rattle.vsd_hierarchy.specs.Cycles.{graph_of}
 use Rattle.vsd_hierarchy.specs.Kinds.{HasBadBase, IsNoInterface}
 use Rattle.vsd_hierarchy.proofs.CycleLemmas.{cycle_shows}
+use Rattle.vsd_hierarchy.proofs.HierarchyLemmas.{is_lawful_where}
 use Rattle.vsd_hierarchy.proofs.PlacedLemmas.{IsHierarchy-none}
+use Rattle.vsd_lawful.proofs.TypeLemmas.{any_named-Decides, is_miscounted-Decides, is_unknown-Decides, one_named-Decides}
+use Rattle.vsd_lawful.specs.Tests.{any_named, is_miscounted, is_unknown}
+use Rattle.vsd_lawful.specs.Types.{IsMiscounted, IsUnknown, Names, override_terms}
+use Rattle.vsd_overrides.specs.Targets.{AreLawfulOwners, ImplementsNothing}
 use Rattle.vsd_check.specs.Conditions.{Shows, ShowsIn, NoneIn, IsEarliest, AreLawful}
 use Rattle.vsd_check.specs.Earliest.{IsFirst}
 use Rattle.vsd_check.specs.Refusals.{pass_of}
 use Rattle.vsd_check.specs.declared.refusal.Cause.{Cause}
-use Rattle.vsd_check.specs.declared.refusal.Cause.TheVariants.{Twice, UnknownType, Arity, Cycle, BadBase, BadInterface, VarianceMisplaced, VariantClass, OverridesFinal, AbstractInConcrete}
+use Rattle.vsd_check.specs.declared.refusal.Cause.TheVariants.{Twice, UnknownType, Arity, Cycle, BadBase, BadInterface, VarianceMisplaced, VariantClass, OverridesFinal, AbstractInConcrete, OverrideUnknown, OverrideTwice}
 use Rattle.vsd_check.specs.declared.refusal.Shown.{Shown}
 
 module _ (d : Decls) where
@@ -70,6 +77,8 @@ module _ (d : Decls) where
   pass_some VariantClass = omega arith
   pass_some OverridesFinal = omega arith
   pass_some AbstractInConcrete = omega arith
+  pass_some OverrideUnknown = omega arith
+  pass_some OverrideTwice = omega arith
 
   pub none_before_first : (earlier : ℕ) → earlier < 1 → NoneIn d earlier
   none_before_first earlier less s w = omega (arith, pass_some s.cause, w.0)
@@ -93,3 +102,29 @@ module _ (d : Decls) where
       by VarianceMisplaced line w = silent VarianceMisplaced third line w
       by OverridesFinal line w = silent OverridesFinal third line w
       by AbstractInConcrete line w = silent AbstractInConcrete third line w
+      by OverrideUnknown line w = silent OverrideUnknown third line w
+      by OverrideTwice line w = silent OverrideTwice third line w
+
+  -- what the owner of an override names the override names
+  owner_named : (test : ℕ × ℕ → Bool) (P : ℕ × ℕ → Type 0) → ((type : ℕ × ℕ) → Decides (test type) (P type)) → (o : Override) → Names P (o.owner ∷ []) → Names P (override_terms o)
+  owner_named test P each o w = (any_named-Decides test P each (override_terms o)).0 (either (any_named test o.owner) _ ((one_named-Decides test P each o.owner).1 w))
+    where
+      either : (a b : Bool) → a ≡ true → (a || b) ≡ true
+      either true b e = refl
+      either false b e = absurd (false≢true e)
+
+  -- the owners of overrides name types that are there, with as many arguments as they take
+  pub lawful_owners : NoneIn d 1 → AreLawfulOwners d.list
+  lawful_owners none i e inside j f within =
+      let x = get_or d.list i e in
+      let o = get_or x.overrides j f in
+      let here : slice_get d.list i ≡ Some x = slice_get-get_or d.list i e inside in
+      let there : slice_get x.overrides j ≡ Some o = slice_get-get_or x.overrides j f within in
+      is_lawful_where d.list o.owner
+      (λ names. silent UnknownType none o.line (record { place = i; element = x; there = here; shows = inr (inr (inr (record { place = j; element = o; there = there; shows = (owner_named (is_unknown d.list) (IsUnknown d.list) (is_unknown-Decides d.list) o names, refl) }))) }))
+      (λ names. silent Arity none o.line (record { place = i; element = x; there = here; shows = inr (inr (inr (record { place = j; element = o; there = there; shows = (owner_named (is_miscounted d.list) (IsMiscounted d.list) (is_miscounted-Decides d.list) o names, refl) }))) }))
+
+  -- an override of lawful declarations implements something
+  pub lawful_target : AreLawful d → (n : ℕ) (x : Decl) (i : ℕ) (o : Override) → slice_get d.list n ≡ Some x → slice_get x.overrides i ≡ Some o → ¬ ImplementsNothing d.list n x o
+  lawful_target lawful n x i o here there none =
+      lawful OverrideUnknown o.line (record { place = n; element = x; there = here; shows = record { place = i; element = o; there = there; shows = (none, refl) } })

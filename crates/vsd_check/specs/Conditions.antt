@@ -7,12 +7,13 @@ use Rattle.vsd_lawful.specs.Types.{ShowsUnknown, ShowsArity}
 use Rattle.vsd_lawful.specs.Variant.{ShowsVariantClass}
 use Rattle.vsd_hierarchy.specs.Cycles.{ShowsCycle}
 use Rattle.vsd_hierarchy.specs.Kinds.{ShowsBadBase, ShowsBadInterface}
+use Rattle.vsd_overrides.specs.Conditions.{ShowsRepeatedOverride, ShowsUnknownOverride}
 use Rattle.vsd_roots.specs.Bodies.{ShowsAbstract}
 use Rattle.vsd_roots.specs.Final.{ShowsFinal}
 use Rattle.vsd_roots.specs.Variance.{ShowsMisplaced}
 use Rattle.vsd_check.specs.Refusals.{ComesFirst, pass_of}
 use Rattle.vsd_check.specs.declared.refusal.Cause.{Cause}
-use Rattle.vsd_check.specs.declared.refusal.Cause.TheVariants.{Twice, UnknownType, Arity, Cycle, BadBase, BadInterface, VarianceMisplaced, VariantClass, OverridesFinal, AbstractInConcrete}
+use Rattle.vsd_check.specs.declared.refusal.Cause.TheVariants.{Twice, UnknownType, Arity, Cycle, BadBase, BadInterface, VarianceMisplaced, VariantClass, OverridesFinal, AbstractInConcrete, OverrideUnknown, OverrideTwice}
 use Rattle.vsd_check.specs.declared.refusal.Shown.{Shown}
 
 module _ (d : Decls) where
@@ -47,6 +48,12 @@ module _ (d : Decls) where
   abbrev pub AbstractAt : ℕ → Type 0
   AbstractAt = AtSome d.list (ShowsAbstract d.list)
 
+  abbrev pub UnknownOverrideAt : ℕ → Type 0
+  UnknownOverrideAt = AtSome d.list (ShowsUnknownOverride d.list)
+
+  abbrev pub RepeatedOverrideAt : ℕ → Type 0
+  RepeatedOverrideAt = AtSome d.list (ShowsRepeatedOverride d.list)
+
   -- the cause shows at this line
   abbrev pub Shows : Cause → ℕ → Type 0
   Shows Twice = TwiceAt
@@ -59,6 +66,8 @@ module _ (d : Decls) where
   Shows VariantClass = VariantAt
   Shows OverridesFinal = FinalOverriddenAt
   Shows AbstractInConcrete = AbstractAt
+  Shows OverrideUnknown = UnknownOverrideAt
+  Shows OverrideTwice = RepeatedOverrideAt
 
   -- it is a cause of this pass, and shows
   abbrev pub ShowsIn : ℕ → Shown → Type 0

@@ -3,7 +3,7 @@ use Rattle.std.specs.Prelude.{◌≡◌, ℕ, ◌<◌, ◌≤◌, ◌⊎◌, Opt
 use Rattle.vsd_check.specs.declared.refusal.Cause.{Cause}
 use Rattle.vsd_check.specs.declared.refusal.Cause.TheVariants as cause
 use Rattle.vsd_check.specs.declared.refusal.CheckError.{CheckError}
-use Rattle.vsd_check.specs.declared.refusal.CheckError.TheVariants.{Twice, UnknownType, Arity, Cycle, BadBase, BadInterface, VarianceMisplaced, VariantClass, OverridesFinal, AbstractInConcrete, Memory}
+use Rattle.vsd_check.specs.declared.refusal.CheckError.TheVariants.{Twice, UnknownType, Arity, Cycle, BadBase, BadInterface, VarianceMisplaced, VariantClass, OverridesFinal, AbstractInConcrete, OverrideUnknown, OverrideTwice, Memory}
 use Rattle.vsd_check.specs.declared.refusal.Shown.{Shown}
 
 abbrev pub at_line : ℕ → Cause → Option Shown
@@ -21,6 +21,8 @@ refusal_of (VarianceMisplaced line) = at_line line cause.VarianceMisplaced
 refusal_of (VariantClass line) = at_line line cause.VariantClass
 refusal_of (OverridesFinal line) = at_line line cause.OverridesFinal
 refusal_of (AbstractInConcrete line) = at_line line cause.AbstractInConcrete
+refusal_of (OverrideUnknown line) = at_line line cause.OverrideUnknown
+refusal_of (OverrideTwice line) = at_line line cause.OverrideTwice
 refusal_of Memory = None
 
 -- the number under which a refusal is printed, by which those of one pass and line are ordered
@@ -35,6 +37,8 @@ number_of cause.VarianceMisplaced = 36
 number_of cause.VariantClass = 37
 number_of cause.OverridesFinal = 38
 number_of cause.AbstractInConcrete = 39
+number_of cause.OverrideUnknown = 40
+number_of cause.OverrideTwice = 41
 
 -- the pass that looks for it
 abbrev pub pass_of : Cause → ℕ
@@ -48,6 +52,8 @@ pass_of cause.BadInterface = 2
 pass_of cause.VarianceMisplaced = 3
 pass_of cause.OverridesFinal = 3
 pass_of cause.AbstractInConcrete = 3
+pass_of cause.OverrideUnknown = 3
+pass_of cause.OverrideTwice = 3
 
 -- at an earlier line, or at the same with no greater number
 abbrev pub NoLater : Shown → Shown → Type 0

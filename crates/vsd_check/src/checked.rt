@@ -1,16 +1,21 @@
 //! Declarations that are lawful.
-ghost use Rattle.std.specs.Prelude.{◌≡◌, ◌<◌, length, slice_index_or};
+ghost use Rattle.std.specs.Prelude.{◌≡◌, ◌<◌, length, Some, slice_get, slice_index_or};
 ghost use Rattle.vsd_ast.specs.Hierarchy.{IsHierarchy};
 ghost use Rattle.vsd_ast.specs.Lookup.{place_of};
 ghost use Rattle.vsd_ast.specs.WellFormed.{AreWellFormed};
+ghost use Rattle.vsd_ast.specs.declared.declarations.Decl.{Decl};
 ghost use Rattle.vsd_ast.specs.declared.declarations.Method.{Method};
+ghost use Rattle.vsd_ast.specs.declared.declarations.Override.{Override};
 ghost use Rattle.vsd_check.specs.Checked.{decls_of, depths_of};
+ghost use Rattle.vsd_check.specs.Conditions.{AreLawful};
+ghost use Rattle.vsd_overrides.specs.Implements.{Implements};
 ghost use Rattle.vsd_roots.specs.Methods.{IsMethod};
 ghost use Rattle.vsd_roots.specs.Slots.{IsRoot};
 
 use sqlite_items::Items;
 use std::marker::Model;
 use vsd_ast::Decls;
+use vsd_overrides::Target;
 use vsd_roots::{Place, entry_of};
 
 /// Lawful declarations, with the depth of each: one more than the greatest of its base and its interfaces.
@@ -20,14 +25,17 @@ pub struct Checked {
     pub(crate) places: Items<u16>,
     pub(crate) depths: Items<u16>,
     pub(crate) roots: Items<Items<Place>>,
+    pub(crate) targets: Items<Items<Option<Target>>>,
 }
 
 impl Model for Checked {
     ghost use Rattle.std.specs.Coded.{codes};
     ghost use Rattle.vsd_ast.specs.Hierarchy.{IsHierarchy};
     ghost use Rattle.vsd_ast.specs.WellFormed.{AreWellFormed};
+    ghost use Rattle.vsd_check.specs.Conditions.{AreLawful};
     ghost use Rattle.vsd_check.specs.Value.{Value as Told};
     ghost use Rattle.vsd_lawful.specs.Index.{IsIndex};
+    ghost use Rattle.vsd_overrides.specs.Targets.{TabulatesTargets};
     ghost use Rattle.vsd_roots.specs.Methods.{Tabulates};
     ghost use Rattle.vsd_roots.specs.Slots.{IsRoot};
     ghost use Rattle.vsd_terms.specs.contracts.term.Term as term;
@@ -39,13 +47,15 @@ impl Model for Checked {
     ghost view = { λ c. record { decls = c.decls; depths = c.depths } };
 
     ghost invariant = { λ c. AreWellFormed c.decls × IsHierarchy c.decls.list c.depths × IsIndex c.decls.list c.places
-        × Tabulates c.decls.list (IsRoot c.decls.list) c.roots };
+        × Tabulates c.decls.list (IsRoot c.decls.list) c.roots × TabulatesTargets c.decls.list c.targets
+        × AreLawful c.decls };
 }
 
 impl Checked {
     /// The declarations. Takes no memory.
     pub fn decls(&self) -> &Decls
         ensures decls { result.now ≡ decls_of self.now }
+        ensures lawful { AreLawful (decls_of self.now) }
         ensures well_formed { AreWellFormed (decls_of self.now) }
         ensures hierarchy { IsHierarchy (decls_of self.now).list (depths_of self.now) }
     {
@@ -86,5 +96,22 @@ impl Checked {
     {
         let root = entry_of(self.roots.as_slice(), Place { decl, method });
         (root.decl, root.method)
+    }
+
+    /// What an override implements: the interface's method and the declaration's method that implements it (ECMA-335,
+    /// II.10.3.2, II.12.2). The override is told by the declaration and its place among that declaration's overrides.
+    /// Takes no memory.
+    pub fn target(&self, decl: u16, place: u16) -> Target
+        // The declaration is there, and has an override at this place.
+        requires { (x : Decl) × ((slice_get (decls_of self.now).list decl ≡ Some x) × (place < length x.overrides)) }
+        ensures target { (x : Decl) (o : Override) → slice_get (decls_of self.now).list decl ≡ Some x →
+            slice_get x.overrides place ≡ Some o → Implements (decls_of self.now).list decl x o result }
+        ensures well_formed { AreWellFormed (decls_of self.now) }
+        ensures hierarchy { IsHierarchy (decls_of self.now).list (depths_of self.now) }
+    {
+        match self.targets.as_slice()[decl as usize].as_slice()[place as usize] {
+            Some(target) => target,
+            None => unreachable!(),
+        }
     }
 }

@@ -3,6 +3,7 @@ ghost use Rattle.std.specs.Prelude.{◌≡◌, IfErr, IfOk, IfSome, OnOk};
 ghost use Rattle.vsd_ast.specs.Hierarchy.{IsHierarchy};
 ghost use Rattle.vsd_ast.specs.WellFormed.{AreWellFormed};
 ghost use Rattle.vsd_lawful.specs.Index.{IsIndex};
+ghost use Rattle.vsd_overrides.specs.Targets.{TabulatesTargets};
 ghost use Rattle.vsd_roots.specs.Methods.{Tabulates};
 ghost use Rattle.vsd_roots.specs.Slots.{IsRoot};
 ghost use Rattle.vsd_check.specs.Checked.{decls_of};
@@ -10,7 +11,7 @@ ghost use Rattle.vsd_check.specs.Conditions.{AreLawful, IsEarliest};
 ghost use Rattle.vsd_check.specs.Refusals.{refusal_of};
 
 use crate::Checked;
-use crate::overriding::root_methods;
+use crate::overriding::{Methods, methods_of};
 use crate::refusal::CheckError;
 use crate::settling::settle;
 use sqlite_items::Items;
@@ -18,14 +19,13 @@ use std::alloc::Global;
 use vsd_ast::Decls;
 use vsd_lawful::{Scope, index};
 use vsd_lift::Hierarchy;
-use vsd_roots::Place;
 
 // What is found of lawful declarations.
 #[derive(Drop)]
 struct Found {
     places: Vec<u16>,
     depths: Vec<u16>,
-    roots: Items<Items<Place>>,
+    methods: Methods,
 }
 
 fn examine(alloc: Global, decls: &Decls) -> Result<Found, CheckError>
@@ -33,7 +33,8 @@ fn examine(alloc: Global, decls: &Decls) -> Result<Found, CheckError>
     ensures lawful { OnOk result (AreLawful decls.now) }
     ensures places { IfOk result (λ found. IsIndex decls.now.list found.places.items) }
     ensures hierarchy { IfOk result (λ found. IsHierarchy decls.now.list found.depths.items) }
-    ensures roots { IfOk result (λ found. Tabulates decls.now.list (IsRoot decls.now.list) found.roots) }
+    ensures roots { IfOk result (λ found. Tabulates decls.now.list (IsRoot decls.now.list) found.methods.roots) }
+    ensures targets { IfOk result (λ found. TabulatesTargets decls.now.list found.methods.targets) }
     ensures refused { IfErr result (λ e. IfSome (refusal_of e) (IsEarliest decls.now)) }
 {
     let places = index(alloc, decls)?;
@@ -51,11 +52,11 @@ fn examine(alloc: Global, decls: &Decls) -> Result<Found, CheckError>
         places: &places,
         depths: &depths,
     };
-    let roots = root_methods(alloc, decls, &h)?;
+    let methods = methods_of(alloc, decls, &h)?;
     Ok(Found {
         places,
         depths,
-        roots,
+        methods,
     })
 }
 
@@ -74,6 +75,7 @@ pub fn check(alloc: Global, decls: Decls) -> Result<Checked, CheckError>
         decls,
         places: Items::from_vec(found.places),
         depths: Items::from_vec(found.depths),
-        roots: found.roots,
+        roots: found.methods.roots,
+        targets: found.methods.targets,
     })
 }

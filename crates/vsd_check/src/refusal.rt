@@ -18,6 +18,8 @@ pub enum Cause {
     VariantClass,
     OverridesFinal,
     AbstractInConcrete,
+    OverrideUnknown,
+    OverrideTwice,
 }
 
 /// A condition that shows, with its line, from 1.
@@ -69,6 +71,15 @@ pub enum CheckError {
     /// A class that isn't abstract has a slot whose method is abstract: the line of the declaration.
     #[error("line {line}: abstract in concrete")]
     AbstractInConcrete { line: u32 },
+    /// An override implements nothing: its line. Its owner is no interface that the class has, or the owner has no such
+    /// method, or the class has no such method, or their signatures differ at the owner's arguments, or the override
+    /// stands in an interface (II.10.3.2, II.12.2).
+    #[error("line {line}: override unknown")]
+    OverrideUnknown { line: u32 },
+    /// An override implements the method that an earlier one of its declaration with the same owner implements: the line
+    /// of the later one (II.10.3.2).
+    #[error("line {line}: override twice")]
+    OverrideTwice { line: u32 },
     /// There is no memory.
     #[error("out of memory")]
     Memory,
@@ -101,5 +112,7 @@ pub(crate) fn refusal(shown: Shown) -> CheckError
         Cause::VariantClass => CheckError::VariantClass { line },
         Cause::OverridesFinal => CheckError::OverridesFinal { line },
         Cause::AbstractInConcrete => CheckError::AbstractInConcrete { line },
+        Cause::OverrideUnknown => CheckError::OverrideUnknown { line },
+        Cause::OverrideTwice => CheckError::OverrideTwice { line },
     }
 }

@@ -1,0 +1,5 @@
+-- Lemmas that several proofs of this crate share.
+pub mod KeyLemmas
+pub mod KnownLemmas
+pub mod MeaningLemmas
+pub mod SignatureLemmas
