@@ -1,4 +1,5 @@
 -- What contracts over declarations and scripts cite.
 pub mod Hierarchy
 pub mod Lookup
+pub mod Scripts
 pub mod WellFormed

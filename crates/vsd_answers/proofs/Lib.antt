@@ -1,0 +1,4 @@
+-- The lemmas of this crate.
+pub mod Loads
+pub mod Lanes
+pub mod Pairs

@@ -1,0 +1,4 @@
+-- What contracts over the lines of answers cite.
+pub mod Lines
+pub mod Moving
+pub mod Names

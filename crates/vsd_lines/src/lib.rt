@@ -1,0 +1,13 @@
+//! The lines of a script's answers, written to a sink in pages.
+#![tactic(auto)]
+
+mod errors;
+mod lines;
+mod pages;
+mod writing;
+
+pub use errors::LinesError;
+pub use writing::write_lines;
+
+#[cfg(test)]
+mod tests;
