@@ -4,7 +4,7 @@ use Rattle.std.proofs.lemmas.Bool.{eq-eqb}
 use Rattle.std.proofs.lemmas.List.Elements.{All-head, All-tail}
 use Rattle.vsd_answers.specs.Numbering.{Pair, is_listed, place_of_pair, same_pair, with_pair}
 
-same_pair-refl : (p : Pair) → same_pair p p ≡ true
+pub same_pair-refl : (p : Pair) → same_pair p p ≡ true
 same_pair-refl p = rw (eq-eqb p.0 p.0 refl, eq-eqb p.1 p.1 refl) refl
 
 -- a pair that is listed stands before the end
@@ -64,7 +64,7 @@ with_pair-listed ts q p e =
     elim (is_listed ts q) as (λ b. is_listed (cond b ts (ts ++ q ∷ [])) p ≡ true) [ true ↦ e | false ↦ listed_stays ts (q ∷ []) p e ]
 
 -- the two cases, with what was asked: whether the pair is listed
-cases_listed : (ts : List Pair) (p : Pair) (P : Bool → Type 0) → (is_listed ts p ≡ true → P true) → (is_listed ts p ≡ false → P false) → P (is_listed ts p)
+pub cases_listed : (ts : List Pair) (p : Pair) (P : Bool → Type 0) → (is_listed ts p ≡ true → P true) → (is_listed ts p ≡ false → P false) → P (is_listed ts p)
 cases_listed ts p P yes_ no_ =
     elim (is_listed ts p) as (λ b. (b ≡ true → P true) → (b ≡ false → P false) → P b) [ true ↦ λ f g. f refl | false ↦ λ f g. g refl ] yes_ no_
 

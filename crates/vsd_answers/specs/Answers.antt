@@ -1,5 +1,5 @@
 -- What a script answers: which type each variable names at each operation, and so each call's target and each cast's value.
-use Rattle.std.specs.Prelude.{◌≡◌, ℕ, ◌+◌, ◌*◌, ◌<◌, cond, nat_eq, List, [], ◌∷◌, ◌++◌, map, length, slice_index, EachIndex, Option, None, Some}
+use Rattle.std.specs.Prelude.{All, ◌≡◌, ℕ, ◌+◌, ◌*◌, ◌<◌, cond, nat_eq, List, [], ◌∷◌, ◌++◌, map, length, slice_index, EachIndex, Option, None, Some}
 use Rattle.vsd_ast.specs.Scripts.{IsWellFormedScript}
 use Rattle.vsd_ast.specs.declared.scripts.Host.{Host}
 use Rattle.vsd_ast.specs.declared.scripts.Lane.{Lane}
@@ -32,6 +32,13 @@ first_of_both None other = other
 abbrev pub latest_load : ℕ → List Op → Option ℕ
 latest_load variable [] = None
 latest_load variable (op ∷ ops) = first_of_both (latest_load variable ops) (loaded variable op)
+
+-- a variable's latest load among these operations, in other words: one that no load of the variable follows
+pub record IsLatestLoad (variable root : ℕ) (ops : List Op) : Type 0 where
+  pub before : List Op
+  pub after : List Op
+  pub whole : ops ≡ before ++ Load variable root ∷ after
+  pub last : All (λ op. loaded variable op ≡ None) after
 
 -- the world of these numbers and lists
 abbrev pub world : ℕ → ℕ → List ℕ → List ℕ → World

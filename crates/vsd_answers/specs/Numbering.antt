@@ -1,9 +1,14 @@
 -- Numbers of dispatch tokens: pairs of an interface's type and a slot, in order of first appearance.
 use Rattle.std.specs.Prelude.{◌≡◌, ℕ, ◌+◌, ◌<◌, ◌&&◌, Bool, true, false, cond, nat_eq, List, [], ◌∷◌, ◌++◌, map, fold, length, slice_index, slice_index_or}
+use Rattle.vsd_ast.specs.declared.scripts.Site.{Site}
 
 -- the number of an interface's type, and a slot
 abbrev pub Pair : Type 0
 Pair = ℕ × ℕ
+
+-- the pair of each site, where roots have these types
+abbrev pub site_pairs : List Site → List ℕ → List Pair
+site_pairs sites types = map (λ (site : Site). (slice_index types site.root, site.slot)) sites
 
 abbrev pub same_pair : Pair → Pair → Bool
 same_pair p q = nat_eq p.0 q.0 && nat_eq p.1 q.1

@@ -3,10 +3,12 @@
 #![tactic(auto)]
 
 mod answering;
+mod laws;
 mod numbering;
 
 pub use answering::answer_lanes;
-pub use numbering::{Tokens, number_tokens};
+pub use laws::{latest_load_law, numbering_law};
+pub use numbering::{Tokens, number_tokens, pairs_of_sites};
 
 #[cfg(test)]
 mod tests;

@@ -1,8 +1,10 @@
 //! Numbers of dispatch tokens.
-ghost use Rattle.std.specs.Prelude.{◌≡◌, ◌+◌, ◌≤◌, length, vec_len, IfOk, OnOk};
-ghost use Rattle.vsd_answers.specs.Numbering.{place_of_pair, site_tokens_of, tokens_of, with_pair};
+ghost use Rattle.std.specs.Prelude.{◌≡◌, ◌+◌, ◌≤◌, All, length, vec_len, IfOk, OnOk};
+ghost use Rattle.vsd_ast.specs.Scripts.{IsSite};
+ghost use Rattle.vsd_answers.specs.Numbering.{place_of_pair, site_pairs, site_tokens_of, tokens_of, with_pair};
 
 use std::alloc::{AllocError, Global};
+use vsd_ast::Site;
 
 /// The dispatch tokens of the sites of a script: pairs of the number of an interface's type and a slot.
 #[derive(Drop)]
@@ -11,6 +13,22 @@ pub struct Tokens {
     pub list: Vec<(u16, u16)>,
     /// The token of each site, by its place in the list.
     pub sites: Vec<u16>,
+}
+
+/// The pair of each site, where `types` has the number of each root's type. The error is want of memory.
+pub fn pairs_of_sites(
+    alloc: Global,
+    sites: &[Site],
+    types: &[u16],
+) -> Result<Vec<(u16, u16)>, AllocError>
+    requires { All (IsSite (length types.now)) sites.now }
+    ensures { IfOk result (λ pairs. pairs.items ≡ site_pairs sites.now types.now) }
+{
+    let mut pairs = Vec::with_capacity(alloc, sites.len())?;
+    for site in sites {
+        pairs.push((types[site.root as usize], site.slot))?;
+    }
+    Ok(pairs)
 }
 
 /// Numbers the pairs of the sites, in order of first appearance. The error is want of memory.

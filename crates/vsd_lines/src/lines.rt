@@ -69,7 +69,10 @@ pub(crate) fn add_cast(
 fn verdict_text(answer: u32) -> &'static [u8]
     ensures { result.now ≡ codes " " ++ verdict answer ++ codes "\n" }
 {
-    if answer == 0 { b" no\n" } else { b" yes\n" }
+    match answer {
+        0 => b" no\n",
+        _ => b" yes\n",
+    }
 }
 
 /// The name of what an operation works on.
