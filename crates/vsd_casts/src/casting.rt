@@ -1,5 +1,5 @@
 //! A cast: look the pair up, and where no row holds it ask the types' tables and put the answer into the cache.
-ghost use Rattle.std.specs.Prelude.{◌≡◌, ◌<◌, ℕ, IfOk, IsOk};
+ghost use Rattle.std.specs.Prelude.{◌≡◌, ◌<◌, ℕ, IfOk, IfErr, IsOk};
 ghost use Rattle.std.specs.Int.{from_bool};
 ghost use Rattle.vsd_words.specs.Handle.{HandleInRange};
 ghost use Rattle.vsd_rule.specs.Layout.{handle_rows};
@@ -30,7 +30,8 @@ use vsd_words::Handle;
 /// caller knows the two handles to name. `walked` is true exactly where no row that was looked at held the pair.
 ///
 /// `Unloaded` comes only where no row held the pair, and exactly where the source's word, which is loaded
-/// first, or else the target's, has another generation or is not live. It carries that handle and its word.
+/// first, or else the target's, has another generation or is not live. It carries that handle, which the
+/// caller does not own and which is no host's, and its word.
 #[inline]
 pub fn cast<R: Resolver>(
     table: &Shared,
@@ -52,6 +53,7 @@ pub fn cast<R: Resolver>(
     ensures logged { LogsOne (key_of table.now) hand.old.seated hand.new.seated (cast_to source target result) 39 }
     ensures tells { Tells hand.old.seated hand.new.seated (λ trail. AnswerTells source target trail result) }
     ensures complete { IsSure (view_of hand.old.seated) source → IsSure (view_of hand.old.seated) target → IsOk result }
+    ensures cause { IfErr result (λ u. ¬ IsSure (view_of hand.old.seated) u.handle) }
     ensures evidence { IfOk result (λ a. HasCastEvidence (view_of hand.new.seated) source target a.yes) }
     ensures world { IfOk result (λ a. (number other : ℕ) → Knows (view_of hand.new.seated).handles source number
         → Knows (view_of hand.new.seated).handles target other → from_bool a.yes ≡ compatible (key_of table.now) number other) }
@@ -86,6 +88,7 @@ fn walk<R: Resolver>(
     requires miss { IsMissOf (key_of table.now) source target miss }
     ensures trail { Makes hand.old.seated hand.new.seated (casting_by (key_of table.now) source target (find.Miss miss)) result }
     ensures complete { IsSure (view_of hand.old.seated) source → IsSure (view_of hand.old.seated) target → IsOk result }
+    ensures cause { IfErr result (λ u. ¬ IsSure (view_of hand.old.seated) u.handle) }
     ensures evidence { IfOk result (λ a. HasCastEvidence (view_of hand.new.seated) source target a.yes) }
     ensures world { IfOk result (λ a. (number other : ℕ) → Knows (view_of hand.new.seated).handles source number
         → Knows (view_of hand.new.seated).handles target other → from_bool a.yes ≡ compatible (key_of table.now) number other) }
