@@ -35,3 +35,6 @@ pub use runtime::Runtime;
 pub use vsd_handles::HandlesFull;
 pub use vsd_rule::{Resolver, Sizes};
 pub use vsd_trails::{Answer, Path, Seen, Unloaded};
+
+#[cfg(test)]
+mod tests;
