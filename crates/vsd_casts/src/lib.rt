@@ -17,6 +17,8 @@
 #![tactic(auto)]
 
 mod casting;
+#[cfg(test)]
+mod tests;
 
 pub use casting::cast;
 pub use vsd_trails::CastAnswer;
