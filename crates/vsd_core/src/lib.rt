@@ -37,3 +37,6 @@ pub use runtime::Runtime;
 pub use vsd_handles::HandlesFull;
 pub use vsd_rule::{Resolver, Sizes};
 pub use vsd_trails::{Answer, CastAnswer, Path, Seen, Unloaded};
+
+#[cfg(test)]
+mod tests;
