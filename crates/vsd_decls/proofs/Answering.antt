@@ -3,9 +3,11 @@ use Rattle.std.proofs.Common.{◌≡◌, ℕ, IsTrue, List, Ok, Err, refl, ap, s
 use Rattle.vsd_text.specs.declared.tokens.Token.{Token}
 use Rattle.vsd_ast.specs.declared.declarations.Decl.{Decl}
 use Rattle.vsd_ast.specs.declared.declarations.Decls.{Decls}
+use Rattle.vsd_grammar.specs.declared.cause.Cause.{Cause}
 use Rattle.vsd_grammar.specs.declared.syntax_error.SyntaxError.{SyntaxError}
 use Rattle.vsd_grammar.specs.Input.{Input}
-use Rattle.vsd_grammar.specs.Grammar.{run}
+use Rattle.vsd_grammar.specs.Grammar.{Outcome, run}
+use Rattle.vsd_grammar.specs.Place.{line_of}
 use Rattle.vsd_grammar.proofs.Outcomes.{ok_parts, err_ok}
 use Rattle.vsd_grammar.proofs.Soundness.{sound}
 use Rattle.vsd_grammar.proofs.Completeness.{complete}
@@ -14,7 +16,7 @@ use Rattle.vsd_grammar.proofs.Refusals.{Holds, holds}
 use Rattle.vsd_grammar.proofs.Behaving.{grows}
 use Rattle.vsd_decl_syntax.specs.Causes.{is_decl_cause}
 use Rattle.vsd_decls.specs.Grammar.{declarations}
-use Rattle.vsd_decls.specs.Declarations.{beginning, AreDeclarations, IsDead, anything, decls_of}
+use Rattle.vsd_decls.specs.Declarations.{beginning, AreDeclarations, IsFirstRefusal, IsDead, anything, decls_of}
 use Rattle.vsd_decls.proofs.Behaving.{declarations_pass}
 use Rattle.vsd_decls.proofs.Deciding.{decides_declarations}
 
@@ -46,3 +48,16 @@ module _ (text : List ℕ) (tokens : List Token) where
 
   pub is_dead : IsDead text tokens
   is_dead r e = λ ys x j same d f. dead (List Decl) declarations anything (decides_declarations anything) (beginning text tokens) r ys x j e same d f
+
+  -- a reading that comes to its end is refused nowhere, and one refusal is the first
+  pub none_refused : (list : List Decl) (j : Input) → run (List Decl) declarations (beginning text tokens) ≡ Ok (list, j) → (shown : ℕ × Cause) → IsFirstRefusal text tokens shown → ⊥
+  none_refused list j e shown f = err_ok f.first list j (sym f.reached ∙ e)
+
+  pub only_refusal : (r : SyntaxError) → run (List Decl) declarations (beginning text tokens) ≡ Err r → (shown : ℕ × Cause) → IsFirstRefusal text tokens shown → ◌≡◌ {A = ℕ × Cause} (line_of tokens r.at, r.cause) shown
+  only_refusal r e shown f =
+      let same : ◌≡◌ {A = Outcome (List Decl)} (Err r) (Err f.first) = sym e ∙ f.reached in
+      let first : r ≡ f.first = cc in
+      pair (ap (λ s. line_of tokens s.at) first ∙ sym f.line) (ap (λ s. s.cause) first ∙ sym f.cause)
+    where
+      pair : {m n : ℕ} {c d : Cause} → m ≡ n → c ≡ d → ◌≡◌ {A = ℕ × Cause} (m, c) (n, d)
+      pair e f = cc

@@ -1,11 +1,12 @@
 //! The reader of declarations.
-ghost use Rattle.std.specs.Prelude.{◌≡◌, ◌≤◌, length, All, IfOk, IfErr, IfSome};
+ghost use Rattle.std.specs.Prelude.{ℕ, ◌≡◌, ◌≤◌, length, All, IfOk, IfErr, IfSome};
 ghost use Rattle.vsd_text.specs.Tokens.{LiesWithin};
 ghost use Rattle.vsd_ast.specs.WellFormed.{AreWellFormed};
 ghost use Rattle.vsd_ast.specs.declared.declarations.Decls.{Decls};
 ghost use Rattle.vsd_grammar.specs.Place.{most_tokens};
+ghost use Rattle.vsd_grammar.specs.declared.cause.Cause.{Cause};
 ghost use Rattle.vsd_decls.specs.Refusals.{refusal_of};
-ghost use Rattle.vsd_decls.specs.Declarations.{AreDeclarations, IsOnly, IsFirstRefusal, IsDead, decls_of};
+ghost use Rattle.vsd_decls.specs.Declarations.{AreDeclarations, IsOnly, IsFirstRefusal, IsRefused, IsDead, decls_of};
 
 use crate::declarations::declarations;
 use crate::errors::{DeclError, error_of};
@@ -30,6 +31,7 @@ pub fn read_decls(alloc: Global, text: &[u8], tokens: &[Token]) -> Result<Decls,
     ensures only { (d : Decls) → AreDeclarations text.now tokens.now d → IsOnly d result }
     ensures formed { IfOk result AreWellFormed }
     ensures refused { IfErr result (λ e. IfSome (refusal_of e) (IsFirstRefusal text.now tokens.now)) }
+    ensures whenever { (shown : ℕ × Cause) → IsFirstRefusal text.now tokens.now shown → IsRefused shown result }
     ensures dead { IsDead text.now tokens.now }
 {
     let mut cursor = Cursor::new(text, tokens, 0, Names::new(alloc));

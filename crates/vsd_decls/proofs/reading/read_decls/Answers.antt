@@ -2,7 +2,7 @@ use Rattle.std.proofs.Common.{rules, sym, subst, ◌∙◌}
 use Rattle.vsd_decls.specs.Declarations.{beginning, AreDeclarations, decls_of}
 use Rattle.vsd_ast.specs.WellFormed.{AreWellFormed}
 use Rattle.vsd_decls.proofs.WellFormed.{are_well_formed}
-use Rattle.vsd_decls.proofs.Answering.{decl_cause, are_declarations, only_read, none_derived, is_dead}
+use Rattle.vsd_decls.proofs.Answering.{decl_cause, are_declarations, only_read, none_derived, none_refused, only_refusal, is_dead}
 use Rattle.vsd_decls.proofs.reading.read_decls.Goals as goal
 
 pub returns-in-Ok-clause-found : goal.returns-in-Ok-clause-found
@@ -29,3 +29,9 @@ returns-clause-only c = λ d a. absurd (none_derived c.args.text.now c.args.toke
 
 pub returns-clause-dead : goal.returns-clause-dead
 returns-clause-dead c = is_dead c.args.text.now c.args.tokens.now
+
+pub returns-in-Ok-clause-whenever : goal.returns-in-Ok-clause-whenever
+returns-in-Ok-clause-whenever c = λ shown f. none_refused c.args.text.now c.args.tokens.now c.in-Ok.list c.declarations.new.cursor (search rules) shown f
+
+pub returns-clause-whenever : goal.returns-clause-whenever
+returns-clause-whenever c = λ shown f. let e = only_refusal c.args.text.now c.args.tokens.now c.in-Err-Refused.refused (search rules) shown f in search rules
