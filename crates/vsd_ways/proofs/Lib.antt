@@ -3,6 +3,7 @@ pub mod ClassLemmas
 pub mod FoundLemmas
 pub mod KnownLemmas
 pub mod LeadsLemmas
+pub mod ListedLaws
 pub mod OrderLemmas
 pub mod SettledLemmas
 pub mod TableLemmas

@@ -2,5 +2,6 @@
 pub mod Found
 pub mod Known
 pub mod Leads
+pub mod Listed
 pub mod Order
 pub mod Ways

@@ -11,10 +11,12 @@
 mod binding;
 mod having;
 mod known;
+mod laws;
 mod order;
 mod requiring;
 
 pub use having::has_interface;
 pub use known::{Known, Ways};
+pub use laws::interfaces_are_listed;
 pub use order::upward_order;
 pub use requiring::all_ways;
