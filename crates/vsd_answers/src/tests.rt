@@ -38,10 +38,14 @@ impl Resolver for Pairs {
     ghost targets_fit = { λ _ i. elim i as (λ n. slice_index (1 ∷ 2 ∷ []) n < 2 ^ 32)
         [ zero ↦ lit< tt | suc a ↦ elim a as (λ n. slice_index (2 ∷ []) n < 2 ^ 32) [ zero ↦ lit< tt | suc b ↦ lit< tt ] ] };
 
-    ghost answers_are_bits = { λ _ i. elim i as (λ n. slice_index (1 ∷ 0 ∷ 1 ∷ 1 ∷ []) n < 2)
-        [ zero ↦ lit< tt | suc a ↦ elim a as (λ n. slice_index (0 ∷ 1 ∷ 1 ∷ []) n < 2)
-        [ zero ↦ lit< tt | suc b ↦ elim b as (λ n. slice_index (1 ∷ 1 ∷ []) n < 2)
-        [ zero ↦ lit< tt | suc c ↦ elim c as (λ n. slice_index (1 ∷ []) n < 2) [ zero ↦ lit< tt | suc d ↦ lit< tt ] ] ] ] };
+    ghost answers_are_bits = { λ _ i. elim i as (λ n. slice_index (1 ∷ 0 ∷ 1 ∷ 1 ∷ []) n < 2) [
+      | zero ↦ lit< tt
+      | suc a ↦ elim a as (λ n. slice_index (0 ∷ 1 ∷ 1 ∷ []) n < 2) [
+        | zero ↦ lit< tt
+        | suc b ↦ elim b as (λ n. slice_index (1 ∷ 1 ∷ []) n < 2)
+            [ zero ↦ lit< tt | suc c ↦ elim c as (λ n. slice_index (1 ∷ []) n < 2) [ zero ↦ lit< tt | suc d ↦ lit< tt ] ]
+      ]
+    ] };
 }
 
 /// Three roots, of which the first is an interface's.
