@@ -5,3 +5,4 @@ pub mod Filling
 pub mod Sweeping
 pub mod Protecting
 pub mod Leaving
+pub mod Searching

@@ -5,3 +5,4 @@ pub mod Hands
 pub mod Sweeps
 pub mod Logged
 pub mod Leaving
+pub mod Claiming

@@ -1,6 +1,6 @@
 //! Rows of one's own: a caller claims a free row, fills it with what it has evidence of, and gives it
 //! up where it could not publish it.
-ghost use Rattle.std.specs.Prelude.{◌≡◌, ◌<◌, min, IfSome};
+ghost use Rattle.std.specs.Prelude.{◌≡◌, ◌<◌, min, IfSome, IfNone};
 ghost use Rattle.vsd_words.specs.Handle.{HandleInRange};
 ghost use Rattle.vsd_rule.specs.Evidence.{HasEvidence};
 ghost use Rattle.vsd_rule.specs.RowSteps.{next_row, after_free};
@@ -8,6 +8,7 @@ ghost use Rattle.vsd_rule.specs.RowFacts.{IsPrivate, IsFilled};
 ghost use Rattle.vsd_table.specs.Seating.{key_of, view_of, Belongs, Becomes};
 ghost use Rattle.vsd_trails.specs.RowTrails.{claiming_row, claiming, filling, abandoning};
 ghost use Rattle.vsd_rows.specs.Makes.{Makes};
+ghost use Rattle.vsd_rows.specs.Claiming.{FoundClaimed};
 ghost use Rattle.vsd_rows.specs.Hands.{Claims, given_if, after_fill};
 
 use crate::hand::Hand;
@@ -23,6 +24,7 @@ use vsd_words::Handle;
 pub fn claim(table: &Shared, hand: &mut Hand) -> Option<u16>
     requires seat { Belongs table.now hand.old.seated }
     ensures trail { Makes hand.old.seated hand.new.seated (claiming (key_of table.now)) result }
+    ensures cause { IfNone result (FoundClaimed (key_of table.now) hand.old.cursor hand.old.seated hand.new.seated) }
     ensures changes { Claims (view_of hand.old.seated) (view_of hand.new.seated) result }
     ensures private { IfSome result (IsPrivate (view_of hand.new.seated)) }
     ensures in_table { IfSome result (λ row. row < (key_of table.now).sizes.rows) }

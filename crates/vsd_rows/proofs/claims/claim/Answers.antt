@@ -5,6 +5,7 @@ use Rattle.vsd_rows.specs.Makes.{Makes}
 use Rattle.vsd_rows.specs.Hands.{Claims, given_if}
 use Rattle.vsd_rows.proofs.Makes.{answers}
 use Rattle.vsd_rows.proofs.Sweeping.{tried_on, won_now, ends_search, claims_on, searched, given_private}
+use Rattle.vsd_rows.proofs.Searching.{found_claimed}
 use Rattle.vsd_rows.proofs.claims.claim.Goals as goal
 
 pub returns-then-claim_next-clause-trail : goal.returns-then-claim_next-clause-trail
@@ -53,3 +54,13 @@ returns-clause-trail c =
     let all = c.most_tried-tried-end.ensures in
     let sum : tried + zero ≡ min 8 k.sizes.rows = omega arith in
     searched k _ _ _ _ c.args.hand.now.same_cursor (c.loop-tried.invariant.leads zero sum _ _ (ends_search k hand.cursor hand.seated))
+
+pub returns-clause-cause : goal.returns-clause-cause
+returns-clause-cause c =
+    let k = key_of c.args.table.now in
+    let hand = c.loop-tried.hand in
+    let tried = c.loop-tried._tried in
+    let all = c.most_tried-tried-end.ensures in
+    let sum : tried + zero ≡ min 8 k.sizes.rows = omega arith in
+    found_claimed k c.args.hand.now.cursor c.args.hand.now.seated hand.seated c.requires.seat.key c.args.hand.now.same_cursor
+    (searched k _ _ _ _ c.args.hand.now.same_cursor (c.loop-tried.invariant.leads zero sum _ _ (ends_search k hand.cursor hand.seated)))
