@@ -10,7 +10,7 @@ use std::sync::atomic::{AtomicU64, Ordering};
 use std::test::Fail;
 use std::thread;
 use std::thread::Threads;
-use vsd_words::{CellWord, Handle};
+use vsd_words::{CellWord, Handle, HandleWord};
 
 /// Four types and two tokens. It counts how often it is asked for a method.
 #[derive(Drop)]
@@ -108,6 +108,21 @@ impl Opened {
             return None;
         }
         self.runtime.learn(who, h).ok()
+    }
+
+    /// The word by which a call finds that the handle is unloaded, if it does.
+    fn found_unloaded(&self, who: &mut Caller, site: u16, h: Handle) -> Option<HandleWord>
+        requires caller { IsCallerOf self.now.runtime who.old }
+        requires site { site < 3 }
+        ensures caller { IsCallerOf self.now.runtime who.new }
+    {
+        if !self.runtime.has(h) {
+            return None;
+        }
+        match self.runtime.call(who, site, h) {
+            Ok(_) => None,
+            Err(unloaded) => Some(unloaded.found),
+        }
     }
 
     fn asked(&self) -> u64 {
@@ -225,6 +240,30 @@ fn a_caller_has_sixty_four_handles(rt: HostRuntime) -> Result<(), Fail> {
     assert_eq!(rt; (again.row, again.generation), (first.row, 2));
     assert_eq!(rt; opened.learn(&mut other, again), Some(1));
     assert!(rt; opened.load(&mut who, 2).is_none());
+    Ok(())
+}
+
+#[test]
+fn an_unload_takes_a_handle_from_every_caller(rt: HostRuntime) -> Result<(), Fail> {
+    let (opened, mut callers) = open_world(rt.alloc(), 2, 8, 100)?.ok_or("lawful sizes")?;
+    let mut other = last(&opened, &mut callers).ok_or("two callers")?;
+    let mut who = last(&opened, &mut callers).ok_or("two callers")?;
+    let h = opened.load(&mut who, 3).ok_or("a spare row")?;
+    assert_eq!(rt; opened.learn(&mut other, h), Some(3));
+    opened.call(&mut who, 2, h).ok_or("answered")?;
+    let through_cell = opened.call(&mut other, 2, h).ok_or("answered")?;
+    assert_eq!(rt; (through_cell.target, through_cell.path), (14, Path::Stub));
+
+    assert!(rt; opened.unload(&mut who, h));
+    assert_eq!(rt; who.hand.limbo.len(), 1);
+    let found = opened.found_unloaded(&mut other, 2, h).ok_or("unloaded")?;
+    assert_eq!(rt; (found.generation, found.number, found.live), (1, 3, false));
+    assert_eq!(rt; opened.learn(&mut who, h), None);
+
+    let again = opened.load(&mut who, 1).ok_or("a spare row")?;
+    assert_eq!(rt; (again.row, again.generation), (h.row, 2));
+    let found = opened.found_unloaded(&mut other, 2, h).ok_or("unloaded")?;
+    assert_eq!(rt; (found.generation, found.number, found.live), (2, 1, true));
     Ok(())
 }
 
