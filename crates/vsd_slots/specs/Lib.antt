@@ -1,0 +1,7 @@
+-- What contracts of this crate cite.
+pub mod Ranks
+pub mod Implementation
+pub mod Interfaces
+pub mod Lineage
+pub mod Methods
+pub mod Tables
