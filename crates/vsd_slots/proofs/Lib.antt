@@ -1,5 +1,8 @@
 -- Lemmas that several proofs of this crate share.
 pub mod FirstLaws
+pub mod GivenLaws
 pub mod NumberLaws
 pub mod RankLaws
 pub mod RowLaws
+pub mod SearchLaws
+pub mod SignatureLaws

@@ -34,7 +34,7 @@ module _ (types : List Term) where
     same_number i j i_in j_in same = distinct i j (type_at types i) (slice_get-get_or types i object i_in) (slice_get-get_or types j object j_in ∙ ap Some (sym same))
 
     -- the tests of numbers and of types agree
-    same_test : (i j : ℕ) → i < length types → j < length types → nat_eq i j ≡ term_eq (type_at types i) (type_at types j)
+    pub same_test : (i j : ℕ) → i < length types → j < length types → nat_eq i j ≡ term_eq (type_at types i) (type_at types j)
     same_test i j i_in j_in =
         let decides = term_eq-Decides (type_at types i) (type_at types j) in
         let M : Bool → Type 0 = λ b. term_eq (type_at types i) (type_at types j) ≡ b → nat_eq i j ≡ b in

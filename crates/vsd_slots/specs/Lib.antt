@@ -1,5 +1,7 @@
 -- What contracts of this crate cite.
 pub mod Ranks
+pub mod Arguments
+pub mod Givens
 pub mod Implementation
 pub mod Interfaces
 pub mod Lineage

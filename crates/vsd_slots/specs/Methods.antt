@@ -1,12 +1,12 @@
 -- Which method of a class stands for a method of an interface: by an override, and by its name and signature
 -- (ECMA-335, II.10.3.2, II.12.2).
-use Rattle.std.specs.Prelude.{ℕ, Bool, true, false, ◌&&◌, nat_eq, if◌then◌else◌, List, [], ◌∷◌, map, Option, Some, None, bytes_eq, slice_get}
+use Rattle.std.specs.Prelude.{ℕ, ◌<◌, ◌≤◌, All, IfSome, Bool, true, false, ◌&&◌, nat_eq, if◌then◌else◌, List, [], ◌∷◌, map, Option, Some, None, bytes_eq, slice_get}
 use Rattle.std.specs.Cmp.Lexicographic.{pointwise}
 use Rattle.std.specs.List.{position_from}
 use Rattle.std.specs.Option.{option_and_then, option_eq, option_map, option_or}
 use Rattle.vsd_terms.specs.declared.term.Term.{Term}
 use Rattle.vsd_terms.specs.Equality.{term_eq}
-use Rattle.vsd_terms.specs.Substitution.{subst_of}
+use Rattle.vsd_terms.specs.Substitution.{parameters_of, subst_of}
 use Rattle.vsd_ast.specs.declared.declarations.Access.{Access}
 use Rattle.vsd_ast.specs.declared.declarations.Access.TheVariants.{Public}
 use Rattle.vsd_ast.specs.declared.declarations.Decl.{Decl}
@@ -23,6 +23,11 @@ same_signature a b = option_eq term_eq a.result b.result && pointwise term_eq a.
 -- a signature with arguments in place of the parameters
 abbrev pub signature_at : List Term → Signature → Signature
 signature_at args s = record { result = option_map (subst_of args) s.result; arguments = map (subst_of args) s.arguments }
+
+-- there are arguments for the parameters of a signature
+pub record Fits (count : ℕ) (s : Signature) : Type 0 where
+  pub result : IfSome s.result (λ t. parameters_of t ≤ count)
+  pub arguments : All (λ t. parameters_of t ≤ count) s.arguments
 
 abbrev pub is_public : Access → Bool
 is_public Public = true
@@ -41,6 +46,10 @@ abbrev pub overrides_in : Option Decl → List Override
 overrides_in None = []
 overrides_in (Some x) = x.overrides
 
+-- a public method of a class with these arguments that has the name and the signature of a method of an interface with those
+abbrev pub offers_at : List Term → Method → List Term → Method → Bool
+offers_at interface_args m args p = is_public p.access && bytes_eq p.name m.name && same_signature (signature_at args p.signature) (signature_at interface_args m.signature)
+
 -- ---- an override: which method of its class it gives, and for which method of its owner
 
 -- the place of the method that it gives, among those of its class
@@ -48,20 +57,29 @@ abbrev pub given_by : List Method → Implementer → Option ℕ
 given_by methods (Own place) = Some place
 given_by methods (Named owner name signature) = position_from (λ (p : Method). bytes_eq p.name name && same_signature p.signature signature) 0 methods
 
+-- the method that it gives is one of so many
+abbrev pub IsOwnWithin : ℕ → Implementer → Type 0
+IsOwnWithin count (Own place) = place < count
+IsOwnWithin count (Named owner name signature) = Unit {0}
+
+abbrev pub given_method : List Method → Implementer → Option Method
+given_method methods body = option_and_then (slice_get methods) (given_by methods body)
+
 -- In the long form the owner's method has the written signature, in the parameters of the owner's declaration. In the
 -- short form it has, at the owner's arguments, the signature of the method that is given.
 abbrev pub has_signature : List Term → Option Signature → Option Method → Method → Bool
-has_signature args (Some written) given m = same_signature m.signature written
-has_signature args None (Some p) m = same_signature (signature_at args m.signature) p.signature
-has_signature args None None m = false
+has_signature owner_args (Some written) given m = same_signature m.signature written
+has_signature owner_args None (Some p) m = same_signature (signature_at owner_args m.signature) p.signature
+has_signature owner_args None None m = false
 
-abbrev pub is_meant : List Method → Override → Method → Bool
-is_meant methods o m = bytes_eq m.name o.name && has_signature (args_of o.owner) o.signature (option_and_then (slice_get methods) (given_by methods o.body)) m
+-- whether an override that gives this method is for a method of its owner
+abbrev pub is_meant : Override → List Term → Option Method → Method → Bool
+is_meant o owner_args given m = bytes_eq m.name o.name && has_signature owner_args o.signature given m
 
 module _ (ds : List Decl) where
   -- the place of the method that it is for, the first that fits among those of its owner
   abbrev pub slot_of : List Method → Override → Option ℕ
-  slot_of methods o = position_from (is_meant methods o) 0 (methods_in (declaration_of ds o.owner))
+  slot_of methods o = position_from (is_meant o (args_of o.owner) (given_method methods o.body)) 0 (methods_in (declaration_of ds o.owner))
 
   -- what an override of the class t gives for the m-th method of the interface i
   abbrev pub gives : Term → ℕ → Term → Override → Option ℕ
@@ -73,12 +91,9 @@ module _ (ds : List Decl) where
 
   -- ---- by name and signature, after the arguments of both types are put in
 
-  abbrev pub offers : Term → Method → Term → Method → Bool
-  offers i m t p = is_public p.access && bytes_eq p.name m.name && same_signature (signature_at (args_of t) p.signature) (signature_at (args_of i) m.signature)
-
   abbrev pub offering : Term → Term → Option Method → Option ℕ
   offering i t None = None
-  offering i t (Some m) = position_from (offers i m t) 0 (methods_in (declaration_of ds t))
+  offering i t (Some m) = position_from (offers_at (args_of i) m (args_of t)) 0 (methods_in (declaration_of ds t))
 
   -- the place of the first public virtual method of a class that has the name and the signature of the interface's
   abbrev pub naming : Term → ℕ → Term → Option ℕ

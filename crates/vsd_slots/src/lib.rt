@@ -5,5 +5,9 @@
 #![tactic(auto)]
 
 mod adding;
+mod declared;
+mod naming;
+mod overriding;
 mod ranks;
+mod signatures;
 mod tables;
