@@ -1,4 +1,5 @@
 -- Lemmas that several proofs of this crate share.
+pub mod EntryLaws
 pub mod FirstLaws
 pub mod GivenLaws
 pub mod NumberLaws
@@ -6,3 +7,4 @@ pub mod RankLaws
 pub mod RowLaws
 pub mod SearchLaws
 pub mod SignatureLaws
+pub mod SlotLaws

@@ -143,8 +143,8 @@ module _ (c : TypeList) (depths : List ℕ) where
               ∙ ap (λ ts. firsts (flat_map (tree Ds k) ts)) are;
         }
 
-    own_are : (t : ℕ) (row own : List ℕ) (b : Bool) → is_interface_type Ds (At t) ≡ b → IsReached c depths t row → AreOwn c row t own → AreWithin c.types own × AreInterfaces Ds (At t) (types_of c.types own)
-    own_are t row own false is right owned =
+    pub own-are : (t : ℕ) (row own : List ℕ) (b : Bool) → is_interface_type Ds (At t) ≡ b → IsReached c depths t row → AreOwn c row t own → AreWithin c.types own × AreInterfaces Ds (At t) (types_of c.types own)
+    own-are t row own false is right owned =
         let same = owned.class is in (
           subst (AreWithin c.types) (sym same) right.within,
           record {
@@ -152,7 +152,7 @@ module _ (c : TypeList) (depths : List ℕ) where
             other = λ e. absurd cc;
           },
         )
-    own_are t row own true is right owned =
+    own-are t row own true is right owned =
         let same = owned.other is in (
           subst (AreWithin c.types) (sym same) (All-nil (λ i. i < length c.types)),
           record { class = λ e. absurd cc; other = λ _. ap (types_of c.types) same },
@@ -189,7 +189,7 @@ module _ (c : TypeList) (depths : List ℕ) where
 
     pub map-right : (rows : List (List ℕ)) (t : ℕ) (reached own row : List ℕ) → ((j : ℕ) → j < length c.types → rank_of Ds depths (At j) < rank_of Ds depths (At t) → IsMap c j (get_or rows j [])) → IsReached c depths t reached → AreOwn c reached t own → IsMapFrom c own rows t row → IsMap c t row
     map-right rows t reached own row right is owned from =
-        let mine = own_are t reached own (is_interface_type Ds (At t)) refl is owned in
+        let mine = own-are t reached own (is_interface_type Ds (At t)) refl is owned in
         let above = above_is rows t from.base (base_of Ds (At t)) refl from.numbers right in
         let more = row_of rows from.base in
         let none = All-nil (λ i. i < length c.types) in

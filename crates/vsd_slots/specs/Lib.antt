@@ -1,9 +1,13 @@
 -- What contracts of this crate cite.
 pub mod Ranks
 pub mod Arguments
+pub mod Entries
 pub mod Givens
 pub mod Implementation
 pub mod Interfaces
 pub mod Lineage
 pub mod Methods
+pub mod Refusals
+pub mod Rows
+pub mod Slots
 pub mod Tables

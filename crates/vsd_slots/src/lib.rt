@@ -6,8 +6,14 @@
 
 mod adding;
 mod declared;
+mod entries;
 mod naming;
 mod overriding;
 mod ranks;
+mod rows;
 mod signatures;
+mod slots;
 mod tables;
+
+pub use entries::ClosedMethod;
+pub use slots::{SlotError, Slots, implement};
