@@ -1,21 +1,16 @@
 -- Entries of classes, from those of the classes above.
-use Rattle.std.proofs.Common.{◌≡◌, ℕ, ◌<◌, Bool, true, false, if◌then◌else◌, nat_eq, List, [], ◌∷◌, length, get_or, All, Option, Some, None, refl, sym, ap, ◌∙◌, subst, arith}
+use Rattle.std.proofs.Common.{◌≡◌, ℕ, Bool, true, false, if◌then◌else◌, List, [], ◌∷◌, Option, Some, None, refl, sym, ap, ◌∙◌, subst}
 use Rattle.std.specs.List.{list_any, slice_get}
-use Rattle.std.specs.Option.{option_map, option_or, option_to_list}
-use Rattle.std.proofs.lemmas.Option.{slice_get_within}
+use Rattle.std.specs.Option.{option_or, option_to_list}
 use Rattle.vsd_terms.specs.declared.term.Term.{Term}
 use Rattle.vsd_terms.specs.Equality.{term_eq}
-use Rattle.vsd_ast.specs.declared.declarations.Decl.{Decl}
-use Rattle.vsd_types.specs.Numbers.{AreNumbers, IsDistinct}
+use Rattle.vsd_types.specs.Numbers.{AreNumbers}
 use Rattle.vsd_types.specs.TypeList.{TypeList}
-use Rattle.vsd_types.specs.Types.{base_of, is_interface_type, type_at}
+use Rattle.vsd_types.specs.Types.{base_of, type_at}
 use Rattle.vsd_slots.specs.Entries.{IsCombined, IsEntry, IsOver, IsStep, found_of, method_at}
 use Rattle.vsd_slots.specs.Implementation.{Found, found_in, implementation, nearest}
-use Rattle.vsd_slots.specs.Interfaces.{AreInterfaces}
 use Rattle.vsd_slots.specs.Lineage.{IsLineage, Level}
 use Rattle.vsd_slots.specs.Methods.{naming, overriding}
-use Rattle.vsd_slots.specs.Ranks.{rank_of}
-use Rattle.vsd_slots.specs.Tables.{types_of}
 use Rattle.vsd_slots.specs.declared.entries.ClosedMethod.{ClosedMethod}
 use Rattle.vsd_slots.specs.declared.entries.Entry.{Entry}
 use Rattle.vsd_slots.proofs.NumberLaws.{number-type}

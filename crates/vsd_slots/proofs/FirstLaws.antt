@@ -1,5 +1,5 @@
 -- Types where they first stand: inserting a list is inserting its first ones.
-use Rattle.std.proofs.Common.{◌≡◌, ℕ, Bool, true, false, List, [], ◌∷◌, ◌++◌, if◌then◌else◌, All, Contains, refl, sym, ap, ◌∙◌, subst, arith, ◌⊎◌, inl, inr}
+use Rattle.std.proofs.Common.{◌≡◌, Bool, true, false, List, [], ◌∷◌, ◌++◌, if◌then◌else◌, Contains, refl, sym, ap, ◌∙◌, subst, arith, inl, inr}
 use Rattle.std.specs.List.{list_any}
 use Rattle.std.proofs.lemmas.List.Elements.{Contains-append_left, Contains-append_cases, Contains-push, Contains-push_cases}
 use Rattle.std.proofs.lemmas.List.Sums.{fold-append}
@@ -28,7 +28,7 @@ all-keeps ts (x ∷ xs) y has = all-keeps (insert_key term_eq ts x) xs y (insert
 inserted-again : (ts : List Term) (x : Term) → Contains ts x → insert_key term_eq ts x ≡ ts
 inserted-again ts x has = ap (λ b. if b then ts else ts ++ x ∷ []) ((has_term-Decides ts x).1 has)
 
-has_one : (t y : Term) → Contains (t ∷ []) y → t ≡ y
+pub has_one : (t y : Term) → Contains (t ∷ []) y → t ≡ y
 has_one t y has = elim (Contains-push_cases [] t y has) [ inl none ↦ absurd (omega (arith, none.1)) | inr same ↦ same ]
 
 pub has-after : (acc ts : List Term) (y : Term) → Contains ts y → Contains (insert_all term_eq acc ts) y

@@ -1,5 +1,5 @@
 -- The declaration of a closed type, and what overrides give, by numbers.
-use Rattle.std.proofs.Common.{◌≡◌, ℕ, ◌<◌, Bool, true, false, ◌&&◌, nat_eq, if◌then◌else◌, List, [], length, map, get_or, All, Option, Some, None, Contains, refl, sym, ap, ◌∙◌, subst, arith}
+use Rattle.std.proofs.Common.{◌≡◌, ℕ, ◌<◌, Bool, true, false, ◌&&◌, nat_eq, if◌then◌else◌, List, length, map, get_or, All, Option, Some, None, Contains, refl, sym, ap, ◌∙◌, subst, arith}
 use Rattle.std.specs.List.{position_from, slice_get}
 use Rattle.std.specs.Option.{option_eq}
 use Rattle.std.proofs.lemmas.List.{length-map}
@@ -12,14 +12,14 @@ use Rattle.vsd_terms.specs.Substitution.{subst_of}
 use Rattle.vsd_terms.proofs.SubstitutionLemmas.{subst_of-Named}
 use Rattle.vsd_ast.specs.declared.declarations.Decl.{Decl}
 use Rattle.vsd_ast.specs.declared.declarations.Override.{Override}
-use Rattle.vsd_ast.specs.Lookup.{Head, named, head_of, is_lawful, place_of}
+use Rattle.vsd_ast.specs.Lookup.{named, head_of, is_lawful, place_of}
 use Rattle.vsd_ast.specs.WellFormed.{IsDeclaration}
 use Rattle.vsd_types.specs.Numbers.{IsDistinct}
 use Rattle.vsd_types.specs.TypeList.{TypeList}
 use Rattle.vsd_types.specs.Types.{IsClosedType, args_of, declaration_of, declaration_of_head, object, place_of_head, type_at}
 use Rattle.vsd_types.proofs.Declared.{args_of-Named, declared-All, declared-place, head_of-Named, lawful-params}
 use Rattle.vsd_slots.specs.Arguments.{IsDeclared}
-use Rattle.vsd_slots.specs.Givens.{IsGiven, IsGivenFor, answer_of}
+use Rattle.vsd_slots.specs.Givens.{IsGiven, IsGivenFor}
 use Rattle.vsd_slots.specs.Methods.{given_by, given_method, gives, is_meant, methods_in, slot_of}
 use Rattle.vsd_slots.specs.declared.overriding.Given.{Given}
 use Rattle.vsd_slots.proofs.NumberLaws.{number-type, same_test}

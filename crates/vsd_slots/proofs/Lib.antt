@@ -4,6 +4,7 @@ pub mod FirstLaws
 pub mod GivenLaws
 pub mod NumberLaws
 pub mod RankLaws
+pub mod ReachLaws
 pub mod RowLaws
 pub mod SearchLaws
 pub mod SignatureLaws

@@ -1,16 +1,15 @@
 -- Ranks fall from a type to its base and to what it names.
-use Rattle.std.proofs.Common.{◌≡◌, ℕ, suc, ◌+◌, ◌<◌, ◌≤◌, Bool, true, false, if◌then◌else◌, List, [], ◌∷◌, ◌++◌, length, map, get_or, All, Option, Some, None, IfSome, IsSome, refl, sym, ap, ◌∙◌, subst, arith}
+use Rattle.std.proofs.Common.{◌≡◌, ℕ, ◌+◌, ◌<◌, ◌≤◌, Bool, true, false, if◌then◌else◌, List, [], ◌∷◌, length, map, get_or, All, Option, Some, None, IfSome, refl, sym, ap, ◌∙◌, subst, arith}
 use Rattle.std.specs.List.{slice_get}
 use Rattle.std.specs.Option.{option_and_then}
-use Rattle.std.proofs.lemmas.List.Elements.{All-nil, All-cons, All-head, All-tail, All-weaker}
+use Rattle.std.proofs.lemmas.List.Elements.{All-nil, All-cons, All-head, All-tail}
 use Rattle.std.proofs.lemmas.Option.{slice_get-get_or}
 use Rattle.vsd_terms.specs.declared.term.Builtin.{Builtin as Kind}
 use Rattle.vsd_terms.specs.declared.term.Builtin.TheVariants.{Object, String, ValueType, Bool as Boolean, Char, Int8, Int16, Int32, Int64, Uint8, Uint16, Uint32, Uint64, Float32, Float64}
 use Rattle.vsd_terms.specs.declared.term.Term.{Term}
 use Rattle.vsd_terms.specs.declared.term.Term.TheFolds.{fold-roll-Term}
 use Rattle.vsd_terms.specs.declared.term.Term.TheOpen as layer
-use Rattle.vsd_terms.specs.declared.term.Term.TheVariants.{Named, Param, Builtin, rolls-Param}
-use Rattle.vsd_terms.specs.Size.{greatest}
+use Rattle.vsd_terms.specs.declared.term.Term.TheVariants.{Param, Builtin, rolls-Param}
 use Rattle.vsd_terms.specs.Substitution.{subst_of}
 use Rattle.vsd_terms.proofs.SubstitutionLaws.{get_or-greatest}
 use Rattle.vsd_terms.proofs.SubstitutionLemmas.{subst_of-Named, subst_of-Builtin}

@@ -1,5 +1,5 @@
 -- Rows made from rows of lower rank are right.
-use Rattle.std.proofs.Common.{◌≡◌, ℕ, zero, suc, ◌+◌, ◌<◌, ◌≤◌, ◌⊎◌, inl, inr, Bool, true, false, List, [], ◌∷◌, ◌++◌, length, map, nat_eq, get_or, set, All, Option, Some, None, refl, sym, ap, ◌∙◌, subst, arith, get_or-set_same, get_or-set_other}
+use Rattle.std.proofs.Common.{◌≡◌, ℕ, zero, suc, ◌+◌, ◌<◌, ◌≤◌, inl, inr, Bool, true, false, List, [], ◌∷◌, length, nat_eq, get_or, All, Option, Some, None, refl, sym, ap, ◌∙◌, subst, arith, get_or-set_same, get_or-set_other}
 use Rattle.std.specs.List.{flat_map, slice_get}
 use Rattle.std.specs.Option.{option_to_list}
 use Rattle.std.proofs.lemmas.Bool.{cases_lt, cases_order}
@@ -14,7 +14,7 @@ use Rattle.vsd_ast.specs.declared.declarations.Decl.{Decl}
 use Rattle.vsd_ast.specs.Hierarchy.{IsHierarchy}
 use Rattle.vsd_types.specs.Numbers.{AreNumbers, IsDistinct}
 use Rattle.vsd_types.specs.TypeList.{TypeList}
-use Rattle.vsd_types.specs.Types.{base_of, is_interface_type, named_of, object, type_at}
+use Rattle.vsd_types.specs.Types.{base_of, is_interface_type, named_of, type_at}
 use Rattle.vsd_slots.specs.Interfaces.{AreInterfaces, firsts, tree}
 use Rattle.vsd_slots.specs.Lineage.{IsLineage, Level, all_interfaces}
 use Rattle.vsd_slots.specs.Ranks.{AreRanks, rank_of}
@@ -23,7 +23,7 @@ use Rattle.vsd_slots.proofs.FirstLaws.{insert-firsts}
 use Rattle.vsd_slots.proofs.NumberLaws.{AreWithin, inserts-types, inserts-within, number-type, types_of-numbers}
 use Rattle.vsd_slots.proofs.RankLaws.{base-falls, named-falls}
 
-tree-more : (ds : List Decl) (k : ℕ) (i : Term) → tree ds (suc k) i ≡ i ∷ flat_map (tree ds k) (named_of ds i)
+pub tree-more : (ds : List Decl) (k : ℕ) (i : Term) → tree ds (suc k) i ≡ i ∷ flat_map (tree ds k) (named_of ds i)
 unfolding tree
 tree-more ds k i = refl
 

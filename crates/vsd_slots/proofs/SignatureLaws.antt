@@ -1,15 +1,15 @@
 -- The test of signatures decides whether they are one.
-use Rattle.std.proofs.Common.{◌≡◌, ℕ, ◌≤◌, Bool, true, false, ◌&&◌, List, [], length, map, get_or, Option, Some, None, All, IfSome, refl, sym, ap, ◌∙◌, subst}
+use Rattle.std.proofs.Common.{◌≡◌, ℕ, ◌≤◌, Bool, true, ◌&&◌, length, get_or, Option, Some, None, All, IfSome, refl, ap, subst}
 use Rattle.std.specs.Bool.{Decides}
 use Rattle.std.specs.Cmp.{first_so, second_so}
 use Rattle.std.specs.Cmp.Lexicographic.{pointwise, pointwise_decides}
-use Rattle.std.specs.Option.{option_eq, option_map}
+use Rattle.std.specs.Option.{option_eq}
 use Rattle.vsd_terms.specs.declared.term.Term.{Term}
 use Rattle.vsd_terms.specs.Equality.{term_eq, term_eq-Decides}
 use Rattle.vsd_terms.specs.Substitution.{parameters_of}
 use Rattle.vsd_ast.specs.declared.declarations.Method.{Method}
 use Rattle.vsd_ast.specs.declared.declarations.Signature.{Signature}
-use Rattle.vsd_ast.specs.WellFormed.{IsDeclaration, IsMethod, IsSignature, IsWritten}
+use Rattle.vsd_ast.specs.WellFormed.{IsDeclaration, IsSignature, IsWritten}
 use Rattle.vsd_ast.specs.declared.declarations.Decl.{Decl}
 use Rattle.vsd_slots.specs.Methods.{Fits, same_signature}
 

@@ -1,5 +1,5 @@
 -- Lineages and implementations are unique, and what a row says of the slots that a class lacks.
-use Rattle.std.proofs.Common.{◌≡◌, ℕ, zero, suc, ◌+◌, ◌<◌, ◌≤◌, ◌⊎◌, inl, inr, Bool, true, false, List, [], ◌∷◌, ◌++◌, length, map, sum, take, get_or, All, Option, Some, None, refl, sym, ap, ◌∙◌, subst, arith}
+use Rattle.std.proofs.Common.{◌≡◌, ℕ, zero, suc, ◌+◌, ◌<◌, ◌≤◌, inl, inr, Bool, true, false, List, [], ◌∷◌, ◌++◌, length, map, take, get_or, Option, Some, None, refl, sym, ap, ◌∙◌, subst, arith}
 use Rattle.std.specs.List.{slice_get}
 use Rattle.std.specs.Option.{option_map}
 use Rattle.std.proofs.lemmas.Bool.{cases_lt, cases_order}
@@ -9,13 +9,13 @@ use Rattle.std.proofs.lemmas.Option.{get_or_from_slice_get, slice_get-get_or, sl
 use Rattle.vsd_terms.specs.declared.term.Term.{Term}
 use Rattle.vsd_ast.specs.declared.declarations.Decl.{Decl}
 use Rattle.vsd_types.specs.TypeList.{TypeList}
-use Rattle.vsd_types.specs.Types.{base_of, is_interface_type, object, type_at}
+use Rattle.vsd_types.specs.Types.{base_of, is_interface_type, type_at}
 use Rattle.vsd_slots.specs.Entries.{IsEntry, found_of}
 use Rattle.vsd_slots.specs.Implementation.{Found, IsImplementation, implementation}
 use Rattle.vsd_slots.specs.Interfaces.{AreInterfaces}
 use Rattle.vsd_slots.specs.Lineage.{IsLineage, Level, all_interfaces}
-use Rattle.vsd_slots.specs.Refusals.{AreAll, IsMissing, IsTooMany, IsTotal, IsWhole, IsWithinLimit, Lacks, LacksFirst, Passes, is_concrete, method_count, most_slots, slots_in}
-use Rattle.vsd_slots.specs.Rows.{IsColumn, IsFirstMissing, IsFirstNone, IsRow}
+use Rattle.vsd_slots.specs.Refusals.{AreAll, IsTotal, IsWhole, IsWithinLimit, Lacks, LacksFirst, Passes, is_concrete, method_count, slots_in}
+use Rattle.vsd_slots.specs.Rows.{IsColumn, IsFirstMissing, IsRow}
 use Rattle.vsd_slots.specs.Slots.{AreFilled}
 use Rattle.vsd_slots.specs.Tables.{IsMap, types_of}
 use Rattle.vsd_slots.specs.declared.entries.ClosedMethod.{ClosedMethod}

@@ -1,9 +1,7 @@
 -- What implements a method of an interface in a closed class, by numbers.
-use Rattle.std.specs.Prelude.{◌≡◌, ℕ, ◌<◌, Bool, if◌then◌else◌, List, [], ◌∷◌, length, nat_eq, Option, Some, None, slice_index_or}
-use Rattle.std.specs.List.{list_any}
+use Rattle.std.specs.Prelude.{◌≡◌, ℕ, ◌<◌, Bool, if◌then◌else◌, List, [], ◌∷◌, length, Option, Some, None, slice_index_or}
 use Rattle.std.specs.Option.{option_map, option_or}
 use Rattle.vsd_terms.specs.declared.term.Term.{Term}
-use Rattle.vsd_ast.specs.declared.declarations.Decls.{Decls}
 use Rattle.vsd_ast.specs.Hierarchy.{IsHierarchy}
 use Rattle.vsd_types.specs.TypeList.{TypeList}
 use Rattle.vsd_types.specs.Types.{type_at}
@@ -11,7 +9,7 @@ use Rattle.vsd_slots.specs.Givens.{AreGiven}
 use Rattle.vsd_slots.specs.Implementation.{Found, implementation, nearest}
 use Rattle.vsd_slots.specs.Interfaces.{AreInterfaces}
 use Rattle.vsd_slots.specs.Lineage.{IsLineage, Level}
-use Rattle.vsd_slots.specs.Tables.{AreRows, types_of}
+use Rattle.vsd_slots.specs.Tables.{AreRows}
 use Rattle.vsd_slots.specs.declared.entries.ClosedMethod.{ClosedMethod}
 use Rattle.vsd_slots.specs.declared.entries.Entry.{Entry}
 use Rattle.vsd_slots.specs.declared.overriding.Given.{Given}

@@ -7,6 +7,7 @@ pub mod Implementation
 pub mod Interfaces
 pub mod Lineage
 pub mod Methods
+pub mod Reaching
 pub mod Refusals
 pub mod Rows
 pub mod Slots

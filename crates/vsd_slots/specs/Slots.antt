@@ -40,3 +40,11 @@ pub record AreFilled (c : TypeList) (n : ℕ) (maps : List (List ℕ)) (rows : L
 pub record AreSlots (c : TypeList) (depths : List ℕ) (s : Slots) : Type 0 where
   pub parts : AreParts c depths s.parts.table.reached s.parts.table.maps s.parts.given
   pub rows : AreFilled c (length c.types) s.parts.table.maps s.rows
+
+-- the same, whatever the depths that they were made by
+abbrev pub AreSlotsOf : TypeList → Slots → Type 0
+AreSlotsOf c s = (depths : List ℕ) × AreSlots c depths s
+
+-- the numbers of the interfaces of a class and of those above it
+abbrev pub map_of : Slots → ℕ → List ℕ
+map_of s t = slice_index_or s.parts.table.maps t []

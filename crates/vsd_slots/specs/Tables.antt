@@ -4,7 +4,6 @@ use Rattle.std.specs.List.{flat_map}
 use Rattle.std.specs.Option.{option_to_list}
 use Rattle.indexmap.specs.IndexSet.{insert_all}
 use Rattle.vsd_terms.specs.declared.term.Term.{Term}
-use Rattle.vsd_ast.specs.declared.declarations.Decl.{Decl}
 use Rattle.vsd_types.specs.Numbers.{AreNumbers}
 use Rattle.vsd_types.specs.TypeList.{TypeList}
 use Rattle.vsd_types.specs.Types.{base_of, is_interface_type, named_of, type_at}

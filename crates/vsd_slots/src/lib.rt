@@ -7,6 +7,7 @@
 mod adding;
 mod declared;
 mod entries;
+mod laws;
 mod naming;
 mod overriding;
 mod ranks;
@@ -16,4 +17,5 @@ mod slots;
 mod tables;
 
 pub use entries::ClosedMethod;
+pub use laws::{implementation_law, interfaces_law};
 pub use slots::{SlotError, Slots, implement};

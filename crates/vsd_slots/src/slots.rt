@@ -1,14 +1,17 @@
 //! The slots of all classes, or the first class that is refused.
-ghost use Rattle.std.specs.Prelude.{◌≡◌, ◌<◌, ◌≤◌, [], All, length, suc, slice_index_or, IfErr, IfOk};
+ghost use Rattle.std.specs.Prelude.{◌≡◌, ◌<◌, ◌≤◌, [], All, length, suc, slice_index, slice_index_or, IfErr, IfOk};
 ghost use Rattle.vsd_check.specs.Checked.{decls_of, depths_of};
 ghost use Rattle.vsd_types.specs.Types.{type_at};
-ghost use Rattle.vsd_slots.specs.Entries.{AreParts};
-ghost use Rattle.vsd_slots.specs.Refusals.{IsTotal, Passes};
-ghost use Rattle.vsd_slots.specs.Tables.{IsMap};
-ghost use Rattle.vsd_slots.specs.Slots.{AreSlots, IsFilledClass, IsLacking, IsRefusal};
+ghost use Rattle.vsd_slots.specs.Entries.{AreParts, found_of};
+ghost use Rattle.vsd_slots.specs.Refusals.{IsTotal, Passes, method_count};
+ghost use Rattle.vsd_slots.specs.Implementation.{IsImplementation};
+ghost use Rattle.vsd_slots.specs.Interfaces.{AreInterfaces};
+ghost use Rattle.vsd_slots.specs.Tables.{IsMap, types_of};
+ghost use Rattle.vsd_slots.specs.Slots.{AreSlots, AreSlotsOf, IsFilledClass, IsLacking, IsRefusal, map_of};
 
 use crate::entries::{ClosedMethod, Parts, gather};
 use crate::rows::{MOST_SLOTS, Slot, add_slots, first_missing, is_concrete, row};
+use crate::tables::own;
 use sqlite_items::Items;
 use std::alloc::{AllocError, Global};
 use vsd_check::Checked;
@@ -49,6 +52,47 @@ pub struct Slots {
     pub(crate) parts: Parts,
     /// For each type and each of its interfaces, what implements each method.
     pub(crate) rows: Items<Items<Items<Option<ClosedMethod>>>>,
+}
+
+impl Slots {
+    /// The numbers of the interfaces that a class has by what it names itself, each followed by those that it requires
+    /// (ECMA-335, II.12.2). No other type has any. Takes no memory.
+    pub fn interfaces<'a>(&'a self, closed: &Closed, t: u16) -> &'a [u16]
+        requires slots { AreSlotsOf closed.now self.now }
+        requires listed { t < length closed.now.types }
+        ensures within { All (λ i. i < length closed.now.types) result.now }
+        ensures interfaces { AreInterfaces closed.now.decls.list (type_at closed.now.types t) (types_of closed.now.types result.now) }
+    {
+        let _count = closed.count();
+        own(closed, self.parts.table.reached.as_slice(), t)
+    }
+
+    /// The numbers of the interfaces of a class and of those above it, nearest class first. Takes no memory.
+    pub fn all_interfaces<'a>(&'a self, closed: &Closed, t: u16) -> &'a [u16]
+        requires slots { AreSlotsOf closed.now self.now }
+        requires listed { t < length closed.now.types }
+        ensures value { result.now ≡ map_of self.now t }
+        ensures map { IsMap closed.now t result.now }
+    {
+        self.parts.table.maps.as_slice()[t as usize].as_slice()
+    }
+
+    /// What implements the `m`-th method of the interface at a place of [`Slots::all_interfaces`]. Takes no memory.
+    pub fn implementation(
+        &self,
+        closed: &Closed,
+        t: u16,
+        place: usize,
+        m: u16,
+    ) -> Option<ClosedMethod>
+        requires slots { AreSlotsOf closed.now self.now }
+        requires listed { t < length closed.now.types }
+        requires place { place < length (map_of self.now t) }
+        requires method { m < method_count closed.now.decls.list (type_at closed.now.types (slice_index (map_of self.now t) place)) }
+        ensures { IsImplementation closed.now.decls.list (type_at closed.now.types t) (type_at closed.now.types (slice_index (map_of self.now t) place)) m (found_of closed.now.types result) }
+    {
+        self.rows.as_slice()[t as usize].as_slice()[place].as_slice()[m as usize]
+    }
 }
 
 // What one class adds.

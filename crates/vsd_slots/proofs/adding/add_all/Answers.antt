@@ -1,7 +1,6 @@
-use Rattle.std.proofs.Common.{nat_eq, sym, ap, ◌∙◌, get_or, take, arith}
-use Rattle.std.proofs.lemmas.List.{take_all}
+use Rattle.std.proofs.Common.{nat_eq, sym, ap, ◌∙◌, get_or}
 use Rattle.std.proofs.lemmas.List.Sums.{fold_more}
-use Rattle.indexmap.specs.IndexSet.{insert_all, insert_key, keys}
+use Rattle.indexmap.specs.IndexSet.{insert_key, keys}
 use Rattle.vsd_slots.proofs.adding.add_all.Goals as goal
 
 pub loop-number-preserved : goal.loop-number-preserved

@@ -1,4 +1,4 @@
-use Rattle.std.proofs.Common.{◌≡◌, ◌<◌, refl, arith}
+use Rattle.std.proofs.Common.{◌<◌, refl, arith}
 use Rattle.vsd_check.specs.Checked.{depths_of}
 use Rattle.vsd_types.specs.Types.{type_at}
 use Rattle.vsd_slots.specs.Ranks.{rank_of}

@@ -1,7 +1,5 @@
-use Rattle.std.proofs.Common.{◌≡◌, ◌<◌, ℕ, nat_eq, [], List, Option, length, get_or, Some, refl, sym, ap, ◌∙◌, subst, arith}
-use Rattle.std.specs.List.{list_any, slice_get}
+use Rattle.std.proofs.Common.{◌≡◌, ◌<◌, ℕ, [], List, Option, length, get_or, refl, sym, ap, ◌∙◌, subst, arith}
 use Rattle.std.proofs.lemmas.Option.{slice_get-get_or}
-use Rattle.vsd_terms.specs.Equality.{term_eq}
 use Rattle.vsd_check.specs.Checked.{depths_of}
 use Rattle.vsd_types.specs.Types.{is_interface_type, type_at}
 use Rattle.vsd_slots.specs.Entries.{IsCombined, method_at}

@@ -1,7 +1,6 @@
-use Rattle.std.proofs.Common.{◌≡◌, ◌+◌, ◌≤◌, ◌∙◌, get_or, ℕ, List, [], ◌∷◌, ◌++◌, length, take, sym, ap, arith}
+use Rattle.std.proofs.Common.{◌+◌, ◌∙◌, get_or, ℕ, List, take, ap, arith}
 use Rattle.std.proofs.lemmas.List.{take_more}
-use Rattle.vsd_types.specs.Types.{type_at}
-use Rattle.vsd_slots.specs.Refusals.{method_count, slots_in}
+use Rattle.vsd_slots.specs.Refusals.{slots_in}
 use Rattle.vsd_slots.specs.Tables.{types_of}
 use Rattle.vsd_slots.proofs.SlotLaws.{slots-push, slots-take}
 use Rattle.vsd_slots.proofs.rows.add_slots.Goals as goal

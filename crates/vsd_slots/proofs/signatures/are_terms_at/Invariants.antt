@@ -1,5 +1,5 @@
 -- The terms before this place are the others.
-use Rattle.std.proofs.Common.{◌≡◌, length, map, take}
+use Rattle.std.proofs.Common.{◌≡◌, map, take}
 use Rattle.vsd_terms.specs.Substitution.{subst_of}
 use Rattle.vsd_slots.proofs.signatures.are_terms_at.Given as goal
 

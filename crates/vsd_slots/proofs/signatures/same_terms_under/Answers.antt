@@ -1,4 +1,4 @@
-use Rattle.std.proofs.Common.{◌≡◌, ◌<◌, length, sym, ◌∙◌, arith}
+use Rattle.std.proofs.Common.{◌<◌, length, sym, ◌∙◌, arith}
 use Rattle.std.proofs.lemmas.Bool.{false≢true}
 use Rattle.vsd_terms.specs.Substitution.{subst_of}
 use Rattle.vsd_terms.proofs.PlaceLemmas.{slice_get-map_at, take_more-map}

@@ -1,6 +1,5 @@
-use Rattle.std.proofs.Common.{◌≡◌, List, Option, Some, None, length, sym, ap, subst}
+use Rattle.std.proofs.Common.{List, Option, Some, None, subst}
 use Rattle.vsd_types.specs.Types.{type_at}
-use Rattle.vsd_slots.specs.Rows.{IsFirstMissing}
 use Rattle.vsd_slots.specs.Slots.{IsLacking}
 use Rattle.vsd_slots.specs.Tables.{types_of}
 use Rattle.vsd_slots.specs.declared.entries.ClosedMethod.{ClosedMethod}

@@ -1,4 +1,4 @@
-use Rattle.std.proofs.Common.{◌≡◌, ◌<◌, length, arith}
+use Rattle.std.proofs.Common.{arith}
 use Rattle.vsd_slots.proofs.SlotLaws.{filled-more, passes-more, total-next}
 use Rattle.vsd_slots.proofs.slots.implement.Goals as goal
 
