@@ -1,10 +1,10 @@
 //! A closed list of types.
-ghost use Rattle.std.specs.Prelude.{◌≡◌, ◌+◌, ◌<◌, ◌≤◌, ◌↔◌, ◌⊎◌, Contains, EachIndex, IfSome, IsSome, IsTrue, Some, length, slice_get, slice_index};
+ghost use Rattle.std.specs.Prelude.{◌≡◌, All, ◌+◌, ◌<◌, ◌≤◌, ◌↔◌, ◌⊎◌, Contains, EachIndex, IfSome, IsSome, IsTrue, Some, length, slice_get, slice_index};
 ghost use Rattle.std.specs.Option.{option_to_list};
 ghost use Rattle.vsd_ast.specs.Lookup.{head_of};
 ghost use Rattle.vsd_types.specs.ClosedList.{IsClosedUnder};
 ghost use Rattle.vsd_types.specs.Numbers.{AreNumbers, IsDistinct};
-ghost use Rattle.vsd_types.specs.Types.{args_of, base_of, is_interface_type, is_reference_type, named_of, object, place_of_head, signs_of, type_at};
+ghost use Rattle.vsd_types.specs.Types.{IsClosedType, args_of, base_of, is_interface_type, is_reference_type, named_of, object, place_of_head, signs_of, type_at};
 
 use crate::entry::Entry;
 use crate::origin::Origin;
@@ -47,6 +47,7 @@ impl Closed {
         ensures most { result ≤ 1024 }
         ensures distinct { IsDistinct self.now.types }
         ensures closed { IsClosedUnder self.now.decls.list self.now.types }
+        ensures lawful { All (IsClosedType self.now.decls.list) self.now.types }
     {
         self.entries.len() as u16
     }

@@ -1,0 +1,11 @@
+-- Lemmas that several proofs of this crate share.
+pub mod EntryLaws
+pub mod FirstLaws
+pub mod GivenLaws
+pub mod NumberLaws
+pub mod RankLaws
+pub mod ReachLaws
+pub mod RowLaws
+pub mod SearchLaws
+pub mod SignatureLaws
+pub mod SlotLaws

@@ -1,0 +1,198 @@
+-- Lineages and implementations are unique, and what a row says of the slots that a class lacks.
+use Rattle.std.proofs.Common.{◌≡◌, ℕ, zero, suc, ◌+◌, ◌<◌, ◌≤◌, inl, inr, Bool, true, false, List, [], ◌∷◌, ◌++◌, length, map, take, get_or, Option, Some, None, refl, sym, ap, ◌∙◌, subst, arith}
+use Rattle.std.specs.List.{slice_get}
+use Rattle.std.specs.Option.{option_map}
+use Rattle.std.proofs.lemmas.Bool.{cases_lt, cases_order}
+use Rattle.std.proofs.lemmas.List.{get_or_append_left, get_or_push, length-map, length-append}
+use Rattle.std.proofs.lemmas.List.Sums.{sum_by-cons}
+use Rattle.std.proofs.lemmas.Option.{get_or_from_slice_get, slice_get-get_or, slice_get-map, slice_get_within}
+use Rattle.vsd_terms.specs.declared.term.Term.{Term}
+use Rattle.vsd_ast.specs.declared.declarations.Decl.{Decl}
+use Rattle.vsd_types.specs.TypeList.{TypeList}
+use Rattle.vsd_types.specs.Types.{base_of, is_interface_type, type_at}
+use Rattle.vsd_slots.specs.Entries.{IsEntry, found_of}
+use Rattle.vsd_slots.specs.Implementation.{Found, IsImplementation, implementation}
+use Rattle.vsd_slots.specs.Interfaces.{AreInterfaces}
+use Rattle.vsd_slots.specs.Lineage.{IsLineage, Level, all_interfaces}
+use Rattle.vsd_slots.specs.Refusals.{AreAll, IsTotal, IsWhole, IsWithinLimit, Lacks, LacksFirst, Passes, is_concrete, method_count, slots_in}
+use Rattle.vsd_slots.specs.Rows.{IsColumn, IsFirstMissing, IsRow}
+use Rattle.vsd_slots.specs.Slots.{AreFilled}
+use Rattle.vsd_slots.specs.Tables.{IsMap, types_of}
+use Rattle.vsd_slots.specs.declared.entries.ClosedMethod.{ClosedMethod}
+use Rattle.vsd_slots.specs.declared.entries.Entry.{Entry}
+use Rattle.vsd_slots.specs.declared.rows.Slot.{Slot}
+
+module _ (ds : List Decl) where
+  interfaces_by : (t : Term) (xs ys : List Term) (b : Bool) → is_interface_type ds t ≡ b → AreInterfaces ds t xs → AreInterfaces ds t ys → xs ≡ ys
+  interfaces_by t xs ys false is a b =
+      let x = a.class is in
+      let y = b.class is in
+      x.whole (x.height + y.height) (omega arith) ∙ sym (y.whole (x.height + y.height) (omega arith))
+  interfaces_by t xs ys true is a b = a.other is ∙ sym (b.other is)
+
+  pub interfaces-unique : (t : Term) (xs ys : List Term) → AreInterfaces ds t xs → AreInterfaces ds t ys → xs ≡ ys
+  interfaces-unique t xs ys a b = interfaces_by t xs ys (is_interface_type ds t) refl a b
+
+  same_level : (a b : Level) → a.type ≡ b.type → a.interfaces ≡ b.interfaces → a ≡ b
+  same_level a b t is = λ i. record { type = t i; interfaces = is i }
+
+  pub lineage-unique : (o : Option Term) (xs ys : List Level) → IsLineage ds o xs → IsLineage ds o ys → xs ≡ ys
+  lineage-unique None [] [] a b = refl
+  lineage-unique None [] (y ∷ ys) a b = absurd b
+  lineage-unique None (x ∷ xs) ys a b = absurd a
+  lineage-unique (Some t) [] ys a b = absurd a
+  lineage-unique (Some t) (x ∷ xs) [] a b = absurd b
+  lineage-unique (Some t) (x ∷ xs) (y ∷ ys) a b =
+      let first = same_level x y (a.0 ∙ sym b.0) (interfaces-unique t x.interfaces y.interfaces a.1 b.1) in
+      let rest = lineage-unique (base_of ds t) xs ys a.2 b.2 in
+      λ i. first i ∷ rest i
+
+  pub implementation-unique : (t i : Term) (m : ℕ) (a b : Option Found) → IsImplementation ds t i m a → IsImplementation ds t i m b → a ≡ b
+  implementation-unique t i m a b x y = x.first ∙ ap (implementation ds i m) (lineage-unique (Some t) x.levels y.levels x.lineage y.lineage) ∙ sym y.first
+
+  pub all-unique : (t : Term) (xs ys : List Term) → AreAll ds t xs → AreAll ds t ys → xs ≡ ys
+  all-unique t xs ys a b = a.all ∙ ap all_interfaces (lineage-unique (Some t) a.levels b.levels a.lineage b.lineage) ∙ sym b.all
+
+found_none : (types : List Term) (o : Option ClosedMethod) → found_of types o ≡ None → o ≡ None
+found_none types None is = refl
+found_none types (Some x) is = absurd cc
+
+-- ---- counts
+
+module _ (ds : List Decl) (types : List Term) where
+  pub slots-take : (ns : List ℕ) (k : ℕ) → slots_in ds (types_of types (take k ns)) ≤ slots_in ds (types_of types ns)
+  slots-take ns zero = omega arith
+  slots-take [] (suc k) = omega arith
+  slots-take (n ∷ ns) (suc k) =
+      let rest = slots-take ns k in
+      let less : slots_in ds (types_of types (take (suc k) (n ∷ ns))) ≡ method_count ds (type_at types n) + slots_in ds (types_of types (take k ns)) = sum_by-cons (λ (x : ℕ). x) (method_count ds (type_at types n)) (map (method_count ds) (types_of types (take k ns))) in
+      let more : slots_in ds (types_of types (n ∷ ns)) ≡ method_count ds (type_at types n) + slots_in ds (types_of types ns) = sum_by-cons (λ (x : ℕ). x) (method_count ds (type_at types n)) (map (method_count ds) (types_of types ns)) in
+      omega (arith, rest, less, more)
+
+  pub slots-push : (ns : List ℕ) (n : ℕ) → slots_in ds (types_of types (ns ++ n ∷ [])) ≡ slots_in ds (types_of types ns) + method_count ds (type_at types n)
+  slots-push [] n = omega arith
+  slots-push (m ∷ ns) n =
+      let rest = slots-push ns n in
+      let pushed : slots_in ds (types_of types ((m ∷ ns) ++ n ∷ [])) ≡ method_count ds (type_at types m) + slots_in ds (types_of types (ns ++ n ∷ [])) = sum_by-cons (λ (x : ℕ). x) (method_count ds (type_at types m)) (map (method_count ds) (types_of types (ns ++ n ∷ []))) in
+      let first : slots_in ds (types_of types (m ∷ ns)) ≡ method_count ds (type_at types m) + slots_in ds (types_of types ns) = sum_by-cons (λ (x : ℕ). x) (method_count ds (type_at types m)) (map (method_count ds) (types_of types ns)) in
+      omega (arith, rest, pushed, first)
+
+-- ---- rows
+
+module _ (c : TypeList) (t : ℕ) where
+  abbrev Ds : List Decl
+  Ds = c.decls.list
+
+  pub column-push : (i m : ℕ) (found new : List (Option ClosedMethod)) (e : Entry) → IsColumn c t i m found → IsEntry c t i m e → new ≡ found ++ e.implementation ∷ [] → IsColumn c t i (m + 1) new
+  column-push i m found new e before entry is =
+      let grown : length new ≡ m + 1 = ap length is ∙ length-append found (e.implementation ∷ []) ∙ ap (λ n. n + 1) before.long in
+      let mine : IsImplementation Ds (type_at c.types t) (type_at c.types i) m (found_of c.types e.implementation) = record { levels = entry.levels; lineage = entry.lineage; first = entry.over.implementation } in
+      record {
+        long = grown;
+        each = λ n within. elim (cases_lt n m) [
+          | inl low ↦ (
+              let read : get_or new n None ≡ get_or found n None = ap (λ (l : List (Option ClosedMethod)). get_or l n None) is ∙ get_or_append_left found (e.implementation ∷ []) None n (omega (arith, before.long, low)) in
+              subst (λ o. IsImplementation Ds (type_at c.types t) (type_at c.types i) n (found_of c.types o)) (sym read) (before.each n low)
+              )
+          | inr high ↦ (
+              let last : n ≡ length found = omega (arith, before.long, high, within) in
+              let read : get_or new n None ≡ e.implementation = ap (λ (l : List (Option ClosedMethod)). get_or l n None) is ∙ ap (λ k. get_or (found ++ e.implementation ∷ []) k None) last ∙ at_end found e.implementation in
+              let same : m ≡ n = omega (arith, before.long, last) in
+              subst (λ o. IsImplementation Ds (type_at c.types t) (type_at c.types i) n (found_of c.types o)) (sym read) (subst (λ k. IsImplementation Ds (type_at c.types t) (type_at c.types i) k (found_of c.types e.implementation)) same mine)
+              )
+        ];
+      }
+    where
+      at_end : (xs : List (Option ClosedMethod)) (x : Option ClosedMethod) → get_or (xs ++ x ∷ []) (length xs) None ≡ x
+      at_end [] x = refl
+      at_end (y ∷ xs) x = at_end xs x
+
+  module _ (interfaces : List ℕ) (row : List (List (Option ClosedMethod))) (filled : IsRow c t interfaces (length interfaces) row) where
+    type_stands : (k : ℕ) → k < length interfaces → slice_get (types_of c.types interfaces) k ≡ Some (type_at c.types (get_or interfaces k 0))
+    type_stands k within = slice_get-map (type_at c.types) interfaces k ∙ ap (option_map (type_at c.types)) (slice_get-get_or interfaces k 0 within)
+
+    -- what the class lacks, its row has not
+    lacks_none : (k m : ℕ) → Lacks Ds (type_at c.types t) (types_of c.types interfaces) k m → (k < length interfaces) × (slice_get (get_or row k []) m ≡ Some None)
+    lacks_none k m lacks =
+        let inside : k < length interfaces = omega (arith, slice_get_within (types_of c.types interfaces) k lacks.interface lacks.stands, length-map interfaces (type_at c.types)) in
+        let stands = type_stands k inside in
+        let same : lacks.interface ≡ type_at c.types (get_or interfaces k 0) = let both = sym lacks.stands ∙ stands in cc in
+        let column = filled.each k inside in
+        let listed : m < method_count Ds (type_at c.types (get_or interfaces k 0)) = omega (arith, lacks.listed, ap (method_count Ds) same) in
+        let none = subst (λ i. IsImplementation Ds (type_at c.types t) i m None) same lacks.none in
+        let empty = found_none c.types (get_or (get_or row k []) m None) (implementation-unique Ds (type_at c.types t) (type_at c.types (get_or interfaces k 0)) m _ _ (column.each m listed) none) in
+        (inside, slice_get-get_or (get_or row k []) m None (omega (arith, column.long, listed)) ∙ ap Some empty)
+
+    none_lacks : (k m : ℕ) → k < length interfaces → slice_get (get_or row k []) m ≡ Some None → Lacks Ds (type_at c.types t) (types_of c.types interfaces) k m
+    none_lacks k m inside is =
+        let column = filled.each k inside in
+        let listed : m < method_count Ds (type_at c.types (get_or interfaces k 0)) = omega (arith, column.long, slice_get_within (get_or row k []) m None is) in
+        let empty : get_or (get_or row k []) m None ≡ None = get_or_from_slice_get (get_or row k []) m None None is in
+        record {
+          interface = type_at c.types (get_or interfaces k 0);
+          stands = type_stands k inside;
+          listed = listed;
+          none = subst (λ o. IsImplementation Ds (type_at c.types t) (type_at c.types (get_or interfaces k 0)) m (found_of c.types o)) empty (column.each m listed);
+        }
+
+    pub whole-row : AreAll Ds (type_at c.types t) (types_of c.types interfaces) → (is_concrete Ds (type_at c.types t) ≡ true → IsFirstMissing row None) → IsWhole Ds (type_at c.types t)
+    whole-row all none concrete others are k m lacks =
+        let same = all-unique Ds (type_at c.types t) others (types_of c.types interfaces) are all in
+        let found = lacks_none k m (subst (λ is. Lacks Ds (type_at c.types t) is k m) same lacks) in
+        none concrete k (omega (arith, found.0, filled.long)) m (slice_get_within (get_or row k []) m None found.1) found.1
+
+    pub first-row : (s : Slot) → IsFirstMissing row (Some s) → LacksFirst Ds (type_at c.types t) (types_of c.types interfaces) s.place s.method
+    first-row s is =
+        record {
+          lacks = none_lacks s.place s.method (omega (arith, is.0, filled.long)) is.1.0;
+          first = λ p n lacks.
+              let found = lacks_none p n lacks in
+              elim (cases_order p s.place) [
+                | inl same ↦ elim (cases_lt n s.method) [
+                  | inl low ↦ absurd (is.1.1 n low (subst (λ k. slice_get (get_or row k []) n ≡ Some None) same found.1))
+                  | inr high ↦ inr (sym same, high)
+                ]
+                | inr other ↦ elim other [
+                  | inl lower ↦ absurd (is.2 p lower n (slice_get_within (get_or row p []) n None found.1) found.1)
+                  | inr higher ↦ inl higher
+                ]
+              ];
+        }
+
+    pub slot-stands : (s : Slot) → s.place < length row → slice_get (types_of c.types interfaces) s.place ≡ Some (type_at c.types (get_or interfaces s.place 0))
+    slot-stands s within = type_stands s.place (omega (arith, within, filled.long))
+
+  -- ---- totals
+
+  pub all-of : (row : List ℕ) → IsMap c t row → AreAll Ds (type_at c.types t) (types_of c.types row)
+  all-of row map = record { levels = map.levels; lineage = map.lineage; all = map.all }
+
+  pub total-more : (row : List ℕ) (total n : ℕ) → IsMap c t row → IsTotal c t total → n ≡ total + slots_in Ds (types_of c.types row) → IsTotal c (suc t) n
+  total-more row total n map before is = (types_of c.types row, total, all-of row map, before, is)
+
+module _ (c : TypeList) where
+  pub passes-more : (t : ℕ) → Passes c t → IsWithinLimit c t → IsWhole c.decls.list (type_at c.types t) → Passes c (t + 1)
+  passes-more t before limit whole n within = elim (cases_lt n t) [
+    | inl low ↦ before n low
+    | inr high ↦ let same : t ≡ n = omega (arith, within, high) in (subst (IsWithinLimit c) same limit, subst (λ k. IsWhole c.decls.list (type_at c.types k)) same whole)
+  ]
+
+  pub total-next : (t total : ℕ) → IsTotal c (suc t) total → IsTotal c (t + 1) total
+  total-next t total is = let next : suc t ≡ t + 1 = omega arith in subst (λ n. IsTotal c n total) next is
+
+  pub filled-more : (t : ℕ) (maps : List (List ℕ)) (rows new : List (List (List (Option ClosedMethod)))) (row : List (List (Option ClosedMethod))) → AreFilled c t maps rows → IsRow c t (get_or maps t []) (length (get_or maps t [])) row → new ≡ rows ++ row ∷ [] → AreFilled c (t + 1) maps new
+  filled-more t maps rows new row before filled is =
+      record {
+        long = ap length is ∙ length-append rows (row ∷ []) ∙ ap (λ n. n + 1) before.long;
+        each = λ n within. elim (cases_lt n t) [
+          | inl low ↦ (
+              let read : get_or new n [] ≡ get_or rows n [] = ap (λ (l : List (List (List (Option ClosedMethod)))). get_or l n []) is ∙ get_or_append_left rows (row ∷ []) [] n (omega (arith, before.long, low)) in
+              subst (IsRow c n (get_or maps n []) (length (get_or maps n []))) (sym read) (before.each n low)
+              )
+          | inr high ↦ (
+              let same : t ≡ n = omega (arith, within, high) in
+              let read : get_or new t [] ≡ row = ap (λ (l : List (List (List (Option ClosedMethod)))). get_or l t []) is ∙ get_or_push rows row [] t before.long in
+              subst (λ k. IsRow c k (get_or maps k []) (length (get_or maps k [])) (get_or new k [])) same (subst (IsRow c t (get_or maps t []) (length (get_or maps t []))) (sym read) filled)
+              )
+        ];
+      }

@@ -1,0 +1,14 @@
+-- What contracts of this crate cite.
+pub mod Ranks
+pub mod Arguments
+pub mod Entries
+pub mod Givens
+pub mod Implementation
+pub mod Interfaces
+pub mod Lineage
+pub mod Methods
+pub mod Reaching
+pub mod Refusals
+pub mod Rows
+pub mod Slots
+pub mod Tables

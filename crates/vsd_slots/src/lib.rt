@@ -1,0 +1,21 @@
+//! The interfaces of closed types, what implements their methods, and which classes leave one without implementation.
+//!
+//! The rules are those of ECMA-335, II.12.2, in this project's profile: an override of the class itself, then a public
+//! virtual method of the class by name and signature, then what its base has, then such a method of a class above.
+#![tactic(auto)]
+
+mod adding;
+mod declared;
+mod entries;
+mod laws;
+mod naming;
+mod overriding;
+mod ranks;
+mod rows;
+mod signatures;
+mod slots;
+mod tables;
+
+pub use entries::ClosedMethod;
+pub use laws::{implementation_law, interfaces_law};
+pub use slots::{SlotError, Slots, implement};
