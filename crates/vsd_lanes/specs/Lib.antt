@@ -1,3 +1,5 @@
 -- What contracts of this crate cite.
 pub mod Meaning
 pub mod Variables
+pub mod Types
+pub mod Setting
