@@ -2,3 +2,5 @@
 pub mod Making
 pub mod LiveLemmas
 pub mod VariableLemmas
+pub mod Deciding
+pub mod Meant

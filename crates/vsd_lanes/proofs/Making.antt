@@ -23,27 +23,27 @@ written_of-Repeat times body = ap written_of (sym (rolls-Repeat times body)) ∙
 
 -- ---- one list after another
 
-pub makes_append : (before : ℕ) (xs ys : List Written) (s : Running) → makes before (xs ++ ys) s ≡ and_then (makes before xs s) (makes before ys)
+pub makes_append : (room : ℕ) (xs ys : List Written) (s : Running) → makes room (xs ++ ys) s ≡ and_then (makes room xs s) (makes room ys)
 unfolding makes
-makes_append before [] ys s = refl
-makes_append before (x ∷ xs) ys s = go (λ t. makes_append before xs ys t) (once before x s)
+makes_append room [] ys s = refl
+makes_append room (x ∷ xs) ys s = go (λ t. makes_append room xs ys t) (once room x s)
   where
-    go : ((t : Running) → makes before (xs ++ ys) t ≡ and_then (makes before xs t) (makes before ys)) → (o : Result Running Refusal)
-        → and_then o (makes before (xs ++ ys)) ≡ and_then (and_then o (makes before xs)) (makes before ys)
+    go : ((t : Running) → makes room (xs ++ ys) t ≡ and_then (makes room xs t) (makes room ys)) → (o : Result Running Refusal)
+        → and_then o (makes room (xs ++ ys)) ≡ and_then (and_then o (makes room xs)) (makes room ys)
     go rest (Ok t) = rest t
     go rest (Err r) = refl
 
-pub makes_one : (before : ℕ) (w : Written) (s : Running) → makes before (w ∷ []) s ≡ once before w s
+pub makes_one : (room : ℕ) (w : Written) (s : Running) → makes room (w ∷ []) s ≡ once room w s
 unfolding makes
-makes_one before w s = go (once before w s)
+makes_one room w s = go (once room w s)
   where
-    go : (o : Result Running Refusal) → and_then o (makes before []) ≡ o
+    go : (o : Result Running Refusal) → and_then o (makes room []) ≡ o
     go (Ok t) = refl
     go (Err r) = refl
 
-pub makes_none : (before : ℕ) (s : Running) → makes before [] s ≡ Ok s
+pub makes_none : (room : ℕ) (s : Running) → makes room [] s ≡ Ok s
 unfolding makes
-makes_none before s = refl
+makes_none room s = refl
 
 -- ---- what a call of the code tells
 
@@ -54,13 +54,13 @@ does_as o p (Err halt.Memory) t e d = tt
 does_as o p (Err (halt.Refused r)) t e d = e ∙ d
 
 -- the first of two lists was made
-pub makes_on : (o : Result Running Refusal) (before : ℕ) (xs ys : List Written) (s t : Running) → o ≡ makes before (xs ++ ys) s → makes before xs s ≡ Ok t → o ≡ makes before ys t
-makes_on o before xs ys s t e d = e ∙ makes_append before xs ys s ∙ ap (λ p. and_then p (makes before ys)) d
+pub makes_on : (o : Result Running Refusal) (room : ℕ) (xs ys : List Written) (s t : Running) → o ≡ makes room (xs ++ ys) s → makes room xs s ≡ Ok t → o ≡ makes room ys t
+makes_on o room xs ys s t e d = e ∙ makes_append room xs ys s ∙ ap (λ p. and_then p (makes room ys)) d
 
 -- the first of two lists can't be made
-pub makes_stop : (o : Result Running Refusal) (before : ℕ) (xs ys : List Written) (s m n : Running) (h : Halt) → o ≡ makes before (xs ++ ys) s → Does (makes before xs s) (Err h) m → Does o (Err h) n
-makes_stop o before xs ys s m n halt.Memory e d = tt
-makes_stop o before xs ys s m n (halt.Refused r) e d = e ∙ makes_append before xs ys s ∙ ap (λ p. and_then p (makes before ys)) d
+pub makes_stop : (o : Result Running Refusal) (room : ℕ) (xs ys : List Written) (s m n : Running) (h : Halt) → o ≡ makes room (xs ++ ys) s → Does (makes room xs s) (Err h) m → Does o (Err h) n
+makes_stop o room xs ys s m n halt.Memory e d = tt
+makes_stop o room xs ys s m n (halt.Refused r) e d = e ∙ makes_append room xs ys s ∙ ap (λ p. and_then p (makes room ys)) d
 
 -- ---- rounds
 

@@ -3,3 +3,7 @@ pub mod Meaning
 pub mod Variables
 pub mod Types
 pub mod Setting
+pub mod Names
+pub mod Steps
+pub mod Productions
+pub mod Laws

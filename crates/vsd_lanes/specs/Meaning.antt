@@ -31,16 +31,13 @@ without (l ∷ ls) variable = if nat_eq l.variable variable then ls else l ∷ w
 
 -- ---- why an operation can't be made
 
--- the most operations of a script, and the most live variables of a lane
-abbrev pub most_operations : ℕ
-most_operations = 200000
-
+-- the most live variables of a lane
 abbrev pub most_live : ℕ
 most_live = 32
 
--- no further operation may be made, where so many were made in earlier lanes
+-- no further operation may be made, where earlier lanes left room for so many
 abbrev pub begins : ℕ → Running → Option Cause
-begins before s = if nat_lt (before + length s.ops) most_operations then None else Some TooManyOperations
+begins room s = if nat_lt (length s.ops) room then None else Some TooManyOperations
 
 -- a variable that is loaded isn't live, and 31 others at most are
 abbrev pub fresh_by : Option Live → List Live → Option Cause
@@ -112,16 +109,16 @@ op_of (Cast word at source target_at target) = op.Cast source target
 abbrev pub does : Written → Running → Running
 does w s = record { live = live_after w s.live; ops = s.ops ++ op_of w ∷ [] }
 
--- one operation after those made so far, where so many were made in earlier lanes
+-- one operation after those made so far, where earlier lanes left room for so many
 unfoldable pub once : ℕ → Written → Running → Result Running Refusal
-once before w s = and_then (shown (word_of w) (begins before s)) (λ _. and_then (allowed w s.live) (λ _. Ok (does w s)))
+once room w s = and_then (shown (word_of w) (begins room s)) (λ _. and_then (allowed w s.live) (λ _. Ok (does w s)))
 
 -- ---- many operations
 
 -- one after another, up to the first that can't be made
 unfoldable pub makes : ℕ → List Written → Running → Result Running Refusal
-makes before [] s = Ok s
-makes before (w ∷ ws) s = and_then (once before w s) (makes before ws)
+makes room [] s = Ok s
+makes room (w ∷ ws) s = and_then (once room w s) (makes room ws)
 
 -- a list so many times
 unfoldable pub times_of : ℕ → List Written → List Written

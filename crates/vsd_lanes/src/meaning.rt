@@ -9,17 +9,14 @@ use std::alloc::AllocError;
 use vsd_ast::{Op, Var};
 use vsd_grammar::Cause;
 
-/// The most operations of a script.
-const MOST_OPERATIONS: usize = 200000;
-
 /// The most live variables of a lane.
 const MOST_LIVE: usize = 32;
 
-/// Why no operation may be made after these, where so many were made in earlier lanes.
-pub(crate) fn begins(before: usize, running: &Running) -> Option<Cause>
-    ensures { result ≡ spec.begins before running.now }
+/// Why no operation may be made after these, where earlier lanes left room for so many.
+pub(crate) fn begins(room: usize, running: &Running) -> Option<Cause>
+    ensures { result ≡ spec.begins room running.now }
 {
-    if running.ops.len() < MOST_OPERATIONS.saturating_sub(before) {
+    if running.ops.len() < room {
         None
     } else {
         Some(Cause::TooManyOperations)
@@ -81,7 +78,11 @@ pub(crate) fn callable(running: &Running, object: Var) -> Option<Cause>
         Var::Host(_) => None,
         Var::Own(variable) => match find(running.live.as_slice(), variable) {
             None => Some(Cause::UnknownName),
-            Some(live) => if live.concrete { None } else { Some(Cause::NotConcrete) },
+            Some(live) => if live.concrete {
+                None
+            } else {
+                Some(Cause::NotConcrete)
+            },
         },
     }
 }
@@ -157,7 +158,9 @@ fn change(written: Written, live: &mut Items<Live>) -> Result<(), AllocError>
 {
     match written {
         Written::Load {
-            variable, concrete, ..
+            variable,
+            concrete,
+            ..
         } => live.push(Live { variable, concrete }),
         Written::Unload { variable, .. } => {
             give_up(live, variable);
@@ -178,10 +181,10 @@ pub(crate) fn perform(written: Written, running: &mut Running) -> Result<(), All
 
 /// Makes an operation. A refusal and want of memory leave what was there in an unknown state.
 #[tactic(auto, unfolding(crate::specs::Meaning::once))]
-pub(crate) fn once(before: usize, written: Written, running: &mut Running) -> Result<(), Halt>
-    ensures { Does (spec.once before written running.old) result running.new }
+pub(crate) fn once(room: usize, written: Written, running: &mut Running) -> Result<(), Halt>
+    ensures { Does (spec.once room written running.old) result running.new }
 {
-    shown(word_of(written), begins(before, running))?;
+    shown(word_of(written), begins(room, running))?;
     allow(written, running)?;
     perform(written, running)?;
     Ok(())
@@ -189,22 +192,22 @@ pub(crate) fn once(before: usize, written: Written, running: &mut Running) -> Re
 
 /// Makes the operations of an item.
 #[cycle(again)]
-fn one(before: usize, item: &Item, running: &mut Running) -> Result<(), Halt>
-    ensures { Does (spec.makes before (spec.written_of item.now) running.old) result running.new }
+fn one(room: usize, item: &Item, running: &mut Running) -> Result<(), Halt>
+    ensures { Does (spec.makes room (spec.written_of item.now) running.old) result running.new }
 {
     match item {
-        Item::Once(written) => once(before, *written, running),
-        Item::Repeat { times, body } => rounds(before, *times, body, running),
+        Item::Once(written) => once(room, *written, running),
+        Item::Repeat { times, body } => rounds(room, *times, body, running),
     }
 }
 
 /// Makes the operations of items, one after another.
 #[cycle(again)]
-pub(crate) fn sequence(before: usize, items: &Items<Item>, running: &mut Running) -> Result<(), Halt>
-    ensures { Does (spec.makes before (spec.joined (map spec.written_of items.now)) running.old) result running.new }
+pub(crate) fn sequence(room: usize, items: &Items<Item>, running: &mut Running) -> Result<(), Halt>
+    ensures { Does (spec.makes room (spec.joined (map spec.written_of items.now)) running.old) result running.new }
 {
     for item in items.as_slice() {
-        one(before, item, running)?;
+        one(room, item, running)?;
     }
     Ok(())
 }
@@ -213,12 +216,17 @@ pub(crate) fn sequence(before: usize, items: &Items<Item>, running: &mut Running
 ///
 /// The first that can't be made ends all rounds.
 #[cycle(again)]
-pub(crate) fn rounds(before: usize, times: u32, body: &Items<Item>, running: &mut Running) -> Result<(), Halt>
-    ensures { Does (spec.makes before (spec.times_of times (spec.joined (map spec.written_of body.now))) running.old)
+pub(crate) fn rounds(
+    room: usize,
+    times: u32,
+    body: &Items<Item>,
+    running: &mut Running,
+) -> Result<(), Halt>
+    ensures { Does (spec.makes room (spec.times_of times (spec.joined (map spec.written_of body.now))) running.old)
         result running.new }
 {
     for _round in 0..times {
-        sequence(before, body, running)?;
+        sequence(room, body, running)?;
     }
     Ok(())
 }

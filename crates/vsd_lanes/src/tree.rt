@@ -19,7 +19,11 @@ pub enum Written {
         concrete: bool,
     },
     /// `unload`, and the name of the variable, at this index.
-    Unload { word: usize, at: usize, variable: u32 },
+    Unload {
+        word: usize,
+        at: usize,
+        variable: u32,
+    },
     /// `call`, the name of a site, and that of the object, at this index.
     Call {
         word: usize,

@@ -8,43 +8,33 @@ ghost use Rattle.vsd_grammar.specs.Grammar.{run, count};
 ghost use Rattle.vsd_grammar.specs.Productions.{Reads};
 ghost use Rattle.vsd_lanes.specs.Types.{numbered, rules_of, arity_by, is_concrete, is_concrete_by};
 
-use std::marker::Model;
 use vsd_ast::{Decl, Decls};
 use vsd_grammar::{Cause, Cursor, Stop, TokenClass};
 use vsd_lawful::Scope;
 use vsd_terms::Term;
 use vsd_type_syntax::TypeRules;
 
-/// The declarations of a text, found by name. Contracts see the declarations.
+/// The declarations of a text, found by name.
+#[derive(Clone, Copy)]
 pub struct Types<'a> {
     decls: &'a Decls,
-    /// The place of each name's declaration, as `index` of the crate below gives them.
+    /// The place of each name's declaration, as `vsd_lawful::index` gives them.
     places: &'a [u16],
-}
-
-impl<'a> Model for Types<'a> {
-    ghost use Rattle.vsd_ast.specs.declared.declarations.Decls.{Decls};
-    ghost use Rattle.vsd_lawful.specs.Index.{IsIndex};
-
-    ghost Value = { Decls };
-
-    ghost view = { λ t. t.decls.now };
-
-    ghost invariant = { λ t. IsIndex t.decls.now.list t.places.now };
+    ghost indexed: { IsIndex decls.now.list places.now },
 }
 
 impl<'a> Types<'a> {
     /// These declarations, with the table of their places.
     pub fn new(decls: &'a Decls, places: &'a [u16]) -> Types<'a>
         requires { IsIndex decls.now.list places.now }
-        ensures { result ≡ decls.now }
+        ensures { result.decls.now ≡ decls.now }
     {
         Types { decls, places }
     }
 
     /// The first declaration with this name.
     pub fn declared(&self, name: u16) -> Option<&'a Decl>
-        ensures { option_copied result ≡ declared self.now.list name }
+        ensures { option_copied result ≡ declared self.now.decls.now.list name }
     {
         let scope = Scope {
             list: self.decls.list.as_slice(),
@@ -55,7 +45,7 @@ impl<'a> Types<'a> {
 
     /// The number of the name of a type that is declared.
     fn number(&self, name: &[u8]) -> Option<u16>
-        ensures { result ≡ numbered self.now.list (position (bytes_eq name.now) self.now.names) }
+        ensures { result ≡ numbered self.now.decls.now.list (position (bytes_eq name.now) self.now.decls.now.names) }
     {
         match self.find(name) {
             Some(number) => match self.declared(number) {
@@ -68,14 +58,17 @@ impl<'a> Types<'a> {
 
     /// The number of a name.
     fn find(&self, name: &[u8]) -> Option<u16>
-        ensures { result ≡ position (bytes_eq name.now) self.now.names }
+        ensures { result ≡ position (bytes_eq name.now) self.now.decls.now.names }
     {
-        self.decls.names.find(name)
+        match self.decls.names.find(name) {
+            Some(number) => Some(number),
+            None => None,
+        }
     }
 
     /// Whether a term is of a class that is not abstract.
     pub fn is_concrete(&self, term: &Term) -> bool
-        ensures { result ≡ is_concrete self.now.list term.now }
+        ensures { result ≡ is_concrete self.now.decls.now.list term.now }
     {
         match term {
             Term::Named { name, args: _ } => match self.declared(*name) {
@@ -91,10 +84,10 @@ impl<'a> Types<'a> {
 impl<'a> TypeRules for Types<'a> {
     ghost use Rattle.vsd_lanes.specs.Types.{rules_of};
 
-    ghost rules = { rules_of };
+    ghost rules = { λ t. rules_of t.decls.now };
 
     fn resolve(&self, cursor: &mut Cursor<'_>, name: &[u8]) -> Result<u16, Stop>
-        ensures { Reads (run _ (count _ ((rules_of self.now).resolve name.now)) cursor.old) result cursor.new }
+        ensures { Reads (run _ (count _ ((rules_of self.now.decls.now).resolve name.now)) cursor.old) result cursor.new }
     {
         match self.number(name) {
             Some(number) => Ok(number),
@@ -103,20 +96,20 @@ impl<'a> TypeRules for Types<'a> {
     }
 
     fn foreign(&self, name: &[u8]) -> Cause
-        ensures { result ≡ (rules_of self.now).foreign name.now }
+        ensures { result ≡ (rules_of self.now.decls.now).foreign name.now }
     {
         let _ = name;
         Cause::UnknownName
     }
 
     fn has_parameters(&self) -> bool
-        ensures { result ≡ (rules_of self.now).has_parameters }
+        ensures { result ≡ (rules_of self.now.decls.now).has_parameters }
     {
         false
     }
 
     fn parameter(&self, class: TokenClass, bytes: &[u8]) -> Option<u8>
-        ensures { result ≡ (rules_of self.now).parameter class bytes.now }
+        ensures { result ≡ (rules_of self.now.decls.now).parameter class bytes.now }
     {
         let _ = class;
         let _ = bytes;
@@ -124,7 +117,7 @@ impl<'a> TypeRules for Types<'a> {
     }
 
     fn arity(&self, number: u16, count: usize) -> Option<Cause>
-        ensures { result ≡ (rules_of self.now).arity number count }
+        ensures { result ≡ (rules_of self.now.decls.now).arity number count }
     {
         match self.declared(number) {
             Some(decl) => {

@@ -5,7 +5,6 @@ use Rattle.vsd_lanes.specs.Meaning.{without}
 use Rattle.vsd_lanes.proofs.LiveLemmas.{without_here, without_later, without_none}
 use Rattle.vsd_lanes.proofs.meaning.give_up.Goals as goal
 
-
 pub returns-then-as_slice-place : goal.returns-then-as_slice-place
 returns-then-as_slice-place c =
     let live = c.args.live.now in
@@ -24,7 +23,7 @@ loop-place-preserved c =
     let v = c.args.variable in
     let same = c.as_slice.ensures ∙ c.loop-place.invariant.0 in
     let later = without_later live i v (record { variable = 0; concrete = false }) (omega arith)
-        (subst (λ (l : List Live). (get_or l i (record { variable = 0; concrete = false })).variable ≡ v → ⊥) same c.if-as_slice-place.false) in
+    (subst (λ (l : List Live). (get_or l i (record { variable = 0; concrete = false })).variable ≡ v → ⊥) same c.if-as_slice-place.false) in
     (c.loop-place.invariant.0, c.loop-place.invariant.1 ∙ later)
 
 pub returns : goal.returns
