@@ -231,3 +231,29 @@ decides_written_rest rules F = (
     λ i y j e h. refl,
   ),
 )
+
+pub decides_written_open : (rules : spec.Rules) (F : TokenClass → Bool) → Decides Term (spec.written_open rules) F
+unfolding spec.written_open spec.outermost spec.suffixed_open
+decides_written_open rules F = (
+  anything,
+  decides_no_nodes anything,
+  λ u. (
+    (
+      anything,
+      (
+        anything,
+        tt,
+        λ h. (
+          decides_started rules (spec.more_of rules (Some 14)) (decides_arguments rules (spec.type_of rules 14 false) (decides_type_of rules 14 false)) (start_at false h.class) anything,
+          λ i y j e g. refl,
+        ),
+      ),
+      λ t. ((anything, tt, λ g. (go t (spec.open_suffix_by (same_class spec.left_bracket g.class) g.class), λ i y j e h. refl)), λ i y j e h. refl),
+    ),
+    λ i y j e h. refl,
+  ),
+)
+  where
+    go : (t : Term) (f : Option Form) → Decides Term (spec.suffixed_by t f) F
+    go t None = tt
+    go t (Some f) = tt

@@ -203,6 +203,22 @@ written rules only_named = bind (Unit {0}) Term no_nodes (λ _. type_of rules mo
 unfoldable pub written_rest : Rules → G Term
 written_rest rules = bind (Unit {0}) Term no_nodes (λ _. bind Term Term (bracketed rules (more_of rules (Some 14))) suffixed)
 
+-- the form that a token after a type shows where a `[` may stand
+abbrev pub open_suffix_by : Bool → TokenClass → Option Form
+open_suffix_by true q = None
+open_suffix_by false q = suffix_of q
+
+unfoldable pub suffixed_open : Term → G Term
+suffixed_open t = bind Lookahead Term lookahead (λ g. suffixed_by t (open_suffix_by (same_class left_bracket g.class) g.class))
+
+-- the outermost type of a written term, without what may stand after it
+unfoldable pub outermost : Rules → G Term
+outermost rules = bind Lookahead Term lookahead (λ h. started rules (more_of rules (Some 14)) (start_at false h.class))
+
+-- a written term that a `[` may follow
+unfoldable pub written_open : Rules → G Term
+written_open rules = bind (Unit {0}) Term no_nodes (λ _. bind Term Term (outermost rules) suffixed_open)
+
 -- why a token is refused that can't begin a type, or a named one alone
 abbrev pub name_cause : Bool → Special → Option Cause
 name_cause empty (special.Builtin b) = None

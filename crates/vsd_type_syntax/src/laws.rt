@@ -4,12 +4,13 @@ ghost use Rattle.vsd_grammar.specs.Grammar.{Decides, Derives, tried};
 ghost use Rattle.vsd_grammar.specs.Input.{Input};
 ghost use Rattle.vsd_grammar.specs.declared.token_class.TokenClass.{TokenClass};
 ghost use Rattle.vsd_terms.specs.declared.term.Term.{Term};
-ghost use Rattle.vsd_type_syntax.specs.Types.{Rules, written, written_rest, first_cause};
+ghost use Rattle.vsd_type_syntax.specs.Types.{Rules, written, written_rest, written_open, first_cause};
 
 /// Types are read in one way, whatever follows them.
 pub fn types_are_decided()
     ensures whole { (rules : Rules) (only_named : Bool) (F : TokenClass → Bool) → Decides _ (written rules only_named) F }
     ensures rest { (rules : Rules) (F : TokenClass → Bool) → Decides _ (written_rest rules) F }
+    ensures open { (rules : Rules) (F : TokenClass → Bool) → Decides _ (written_open rules) F }
 {}
 
 /// No token that begins a type is refused by the first test of a list of types.

@@ -15,4 +15,4 @@ pub use laws::{first_test_accepts, types_are_decided};
 pub use lists::first_cause;
 pub use rules::TypeRules;
 pub use starts::{Special, Start};
-pub use types::{written, written_rest};
+pub use types::{written, written_open, written_rest};

@@ -1,7 +1,7 @@
 //! Types, whose arguments are types.
 ghost use Rattle.std.specs.Prelude.{◌≡◌, ℕ, Option, Bool};
 ghost use Rattle.vsd_grammar.specs.Grammar.{G, run, items, Outcome};
-ghost use Rattle.vsd_grammar.specs.Input.{Input, lookahead_of};
+ghost use Rattle.vsd_grammar.specs.Input.{Input, lookahead_of, class_at, same_class};
 ghost use Rattle.vsd_grammar.specs.Loops.{ReadsAs};
 ghost use Rattle.vsd_grammar.specs.declared.cause.Cause.{Cause};
 ghost use Rattle.vsd_grammar.specs.Productions.{Reads};
@@ -14,7 +14,7 @@ use crate::rules::TypeRules;
 use crate::starts::{Special, Start, special_of, start_at, suffix_of};
 use sqlite_items::Items;
 use std::alloc::Global;
-use vsd_grammar::{Cause, Cursor, Stop, TokenClass, is_name, name, separated, spelled_name};
+use vsd_grammar::{Cause, Cursor, Form, Stop, TokenClass, is_name, name, separated, spelled_name};
 use vsd_terms::Term;
 
 /// The most levels below that of a written term.
@@ -382,4 +382,69 @@ fn outermost_arguments<R: TypeRules>(
         ensures { Reads (run _ (spec.type_of (R.rules rules.entry.now) 14 Bool.false) inner.old) result inner.new }
     { type_of(alloc, inner, rules, MOST_BELOW - 1, false) };
     arguments(alloc, cursor, rules, &argument, index, number)
+}
+
+/// A written term after which a `[` may stand, which ends it; otherwise it is refused as `written` refuses.
+#[tactic(auto, unfolding(crate::specs::Types::written_open))]
+pub fn written_open<R: TypeRules>(
+    alloc: Global,
+    cursor: &mut Cursor<'_>,
+    rules: &R,
+) -> Result<Term, Stop>
+    ensures { Reads (run _ (spec.written_open (R.rules rules.now)) cursor.old) result cursor.new }
+{
+    cursor.begin_term();
+    let term = outermost(alloc, cursor, rules)?;
+    suffixed_open(cursor, term)
+}
+
+/// A type of the first level, without what may stand after it.
+#[tactic(auto, unfolding(crate::specs::Types::outermost))]
+fn outermost<R: TypeRules>(
+    alloc: Global,
+    cursor: &mut Cursor<'_>,
+    rules: &R,
+) -> Result<Term, Stop>
+    ensures { Reads (run _ (spec.outermost (R.rules rules.now)) cursor.old) result cursor.new }
+{
+    let start = start_at(false, cursor.class());
+    outermost_by(alloc, cursor, rules, start)
+}
+
+/// A type of the first level that begins so.
+fn outermost_by<R: TypeRules>(
+    alloc: Global,
+    cursor: &mut Cursor<'_>,
+    rules: &R,
+    start: Start,
+) -> Result<Term, Stop>
+    ensures { Reads (run _ (spec.started (R.rules rules.now) (spec.more_of (R.rules rules.now) (Option.Some 14)) start) cursor.old)
+        result cursor.new }
+{
+    let more = |inner: &mut Cursor<'_>, index: usize, number: u16| -> Result<Term, Stop>
+        ensures { Reads (run _ (spec.more_of (R.rules rules.entry.now) (Option.Some 14) index number) inner.old) result inner.new }
+    { outermost_arguments(alloc, inner, rules, index, number) };
+    started(alloc, cursor, rules, &more, start)
+}
+
+/// The form that a token after a type shows where a `[` may stand.
+fn open_suffix(cursor: &Cursor<'_>) -> Option<Form>
+    ensures { result ≡ spec.open_suffix_by (same_class spec.left_bracket (class_at cursor.now)) (class_at cursor.now) }
+{
+    if cursor.sees(TokenClass::Symbol(b'[')) {
+        None
+    } else {
+        suffix_of(cursor.class())
+    }
+}
+
+/// No form that isn't supported goes on after this type, but that a `[` may stand there.
+#[tactic(auto, unfolding(crate::specs::Types::suffixed_open))]
+fn suffixed_open(cursor: &Cursor<'_>, term: Term) -> Result<Term, Stop>
+    ensures { Reads (run _ (spec.suffixed_open term) cursor.now) result cursor.now }
+{
+    match open_suffix(cursor) {
+        Some(form) => Err(cursor.refuse(Cause::Unsupported(form))),
+        None => Ok(term),
+    }
 }

@@ -1,0 +1,6 @@
+-- Lemmas that several proofs of this crate share.
+pub mod Making
+pub mod LiveLemmas
+pub mod VariableLemmas
+pub mod Deciding
+pub mod Meant
