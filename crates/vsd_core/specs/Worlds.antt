@@ -19,7 +19,3 @@ pub targets_fit : {W : Type 0} (world : W) (i : ℕ) → slice_index targets i <
 unfolding IsLe
 targets_fit world i = below (2 ^ 32) targets (le_by_compare 1 (2 ^ 32) tt)
     (le_by_compare 2 (2 ^ 32) tt, (le_by_compare 12 (2 ^ 32) tt, (le_by_compare 3 (2 ^ 32) tt, (le_by_compare 13 (2 ^ 32) tt, (le_by_compare 4 (2 ^ 32) tt, (le_by_compare 14 (2 ^ 32) tt, (le_by_compare 5 (2 ^ 32) tt, (le_by_compare 15 (2 ^ 32) tt, tt)))))))) i
-
-pub answers_are_bits : {W : Type 0} (world : W) (i : ℕ) → slice_index [] i < 2
-unfolding IsLe
-answers_are_bits world i = le_by_compare 1 2 tt

@@ -1,8 +1,9 @@
-//! Worked rows of calls and handles, and callers on threads.
-ghost use Rattle.std.specs.Prelude.{◌≡◌, ◌<◌, ◌+◌, ◌*◌, [], All, IfOk, IfSome, slice_index};
+//! Worked rows of calls, casts and handles, and callers on threads.
+ghost use Rattle.std.specs.Prelude.{◌≡◌, ◌<◌, ◌+◌, ◌*◌, ◌↔◌, All, IfOk, IfSome, IsTrue, slice_index};
 ghost use Rattle.vsd_core.specs.Callers.{IsNewCaller};
 ghost use Rattle.vsd_core.specs.Runtimes.{table_of, fixed_in, IsCallerOf};
-ghost use Rattle.vsd_core.specs.Worlds.{targets, targets_fit, answers_are_bits};
+ghost use Rattle.vsd_casts.specs.Ladders.{ladder, ladder_of_bits};
+ghost use Rattle.vsd_core.specs.Worlds.{targets, targets_fit};
 
 use super::*;
 use std::alloc::{AllocError, Global};
@@ -12,10 +13,12 @@ use std::thread;
 use std::thread::Threads;
 use vsd_words::{CellWord, Handle, HandleWord};
 
-/// Four types and two tokens. It counts how often it is asked for a method.
+/// Four types, of which each is compatible with itself and with those before it, and two tokens. It counts
+/// how often it is asked for a method, and whether two types are compatible.
 #[derive(Drop)]
 struct World {
     asked: AtomicU64,
+    compared: AtomicU64,
 }
 
 impl Resolver for World {
@@ -25,20 +28,21 @@ impl Resolver for World {
 
     ghost sel = { λ _. targets };
 
-    ghost cmp = { λ _. [] };
+    ghost cmp = { λ _. ladder };
 
     fn select(&self, t: u16, k: u16) -> u32 {
         self.asked.fetch_add(1, Ordering::SeqCst);
         target(t, k)
     }
 
-    fn compat(&self, _t: u16, _u: u16) -> bool {
-        false
+    fn compat(&self, t: u16, u: u16) -> bool {
+        self.compared.fetch_add(1, Ordering::SeqCst);
+        is_compatible(t, u)
     }
 
     ghost targets_fit = { targets_fit };
 
-    ghost answers_are_bits = { answers_are_bits };
+    ghost answers_are_bits = { ladder_of_bits };
 }
 
 /// The target of a call on a type through a token.
@@ -47,6 +51,14 @@ fn target(t: u16, k: u16) -> u32
     ensures { result ≡ t + 1 + 10 * k }
 {
     u32::from(t) + 1 + 10 * u32::from(k)
+}
+
+/// Whether the first type is compatible with the second.
+fn is_compatible(t: u16, u: u16) -> bool
+    requires { (t < 4) × (u < 4) }
+    ensures { IsTrue result ↔ slice_index ladder (t * 4 + u) ≡ 1 }
+{
+    u <= t
 }
 
 /// A runtime with the sites 0 and 1 of token 0 and the site 2 of token 1, and with a host of each of
@@ -76,6 +88,20 @@ impl Opened {
             return None;
         }
         self.runtime.call(who, site, h).ok()
+    }
+
+    /// A cast of two handles that the runtime has.
+    fn cast(&self, who: &mut Caller, source: Handle, target: Handle) -> Option<CastAnswer>
+        requires caller { IsCallerOf self.now.runtime who.old }
+        ensures caller { IsCallerOf self.now.runtime who.new }
+    {
+        if !self.runtime.has(source) {
+            return None;
+        }
+        if !self.runtime.has(target) {
+            return None;
+        }
+        self.runtime.cast(who, source, target).ok()
     }
 
     /// A handle that names the type, if the caller has a spare row.
@@ -128,6 +154,10 @@ impl Opened {
     fn asked(&self) -> u64 {
         self.runtime.resolver().asked.load(Ordering::SeqCst)
     }
+
+    fn compared(&self) -> u64 {
+        self.runtime.resolver().compared.load(Ordering::SeqCst)
+    }
 }
 
 /// Opens a runtime of these sizes, if they are lawful.
@@ -154,6 +184,7 @@ fn open_world(
     }
     let world = World {
         asked: AtomicU64::new(0),
+        compared: AtomicU64::new(0),
     };
     let (runtime, callers) = Runtime::start(alloc, sizes, &[0, 0, 1], &[0, 1, 2], world)?;
     Ok(Some((Opened { runtime }, callers)))
@@ -311,20 +342,53 @@ impl Worker {
         }
     }
 
-    /// Calls on the hosts and on a handle of its own, which is another one every few calls.
-    fn work(&mut self, opened: &Opened, calls: u32)
+    /// A cast, with its answer checked against the world.
+    fn cast(&mut self, opened: &Opened, t: u16, source: Handle, u: u16, target: Handle)
+        requires caller { IsCallerOf opened.now.runtime self.old.caller }
+        ensures caller { IsCallerOf opened.now.runtime self.new.caller }
+    {
+        match opened.cast(&mut self.caller, source, target) {
+            Some(answer) => {
+                if answer.yes != (u <= t) {
+                    self.wrong = self.wrong.wrapping_add(1);
+                }
+                if answer.walked {
+                    self.walked = self.walked.wrapping_add(1);
+                }
+            }
+            None => self.wrong = self.wrong.wrapping_add(1),
+        }
+    }
+
+    /// A host's handle or its own, with its type.
+    fn object(&mut self, opened: &Opened, t: u16, own: Handle) -> (u16, Handle)
+        requires { t < 4 }
+        ensures number { result.0 < 4 }
+        ensures caller { self.new.caller ≡ self.old.caller }
+    {
+        let object = self.draw(4);
+        if object < 3 {
+            (object, opened.host(object))
+        } else {
+            (t, own)
+        }
+    }
+
+    /// Calls or casts on the hosts and on a handle of its own, which is another one every few turns.
+    fn work(&mut self, opened: &Opened, turns: u32, casting: bool)
         requires caller { IsCallerOf opened.now.runtime self.old.caller }
         ensures caller { IsCallerOf opened.now.runtime self.new.caller }
     {
         let mut t = 0;
         let mut own = opened.host(0);
-        for _ in 0..calls {
-            let site = self.draw(3);
-            let object = self.draw(4);
-            if object < 3 {
-                self.call(opened, site, object, opened.host(object));
+        for _ in 0..turns {
+            let (from, source) = self.object(opened, t, own);
+            if casting {
+                let (to, target) = self.object(opened, t, own);
+                self.cast(opened, from, source, to, target);
             } else {
-                self.call(opened, site, t, own);
+                let site = self.draw(3);
+                self.call(opened, site, from, source);
             }
             if self.draw(20) == 0 {
                 opened.unload(&mut self.caller, own);
@@ -367,7 +431,8 @@ fn all_at_work<R: Threads + Sync>(
     rt: &R,
     opened: &Opened,
     workers: &mut Vec<Worker>,
-    calls: u32,
+    turns: u32,
+    casting: bool,
 ) -> (u64, u64)
     requires { All (λ (w : Worker). IsCallerOf opened.now.runtime w.caller) workers.old.items }
 {
@@ -379,7 +444,7 @@ fn all_at_work<R: Threads + Sync>(
         rt,
         workers,
         threads,
-        &|_, worker| worker.work(opened, calls),
+        &|_, worker| worker.work(opened, turns, casting),
     );
     let mut wrong = 0u64;
     let mut walked = 0u64;
@@ -398,10 +463,23 @@ fn each_answer_on_each_thread_is_the_worlds(rt: HostRuntime) -> Result<(), Fail>
                 "lawful sizes",
             )?;
             let mut workers = workers_of(rt.alloc(), &opened, callers)?;
-            let (wrong, walked) = all_at_work(&rt, &opened, &mut workers, 100_000);
+            let (wrong, walked) = all_at_work(&rt, &opened, &mut workers, 100_000, false);
             assert_eq!(rt; wrong, 0);
             assert_eq!(rt; opened.asked(), walked);
         }
+    }
+    Ok(())
+}
+
+#[test]
+fn each_cast_on_each_thread_is_the_worlds(rt: HostRuntime) -> Result<(), Fail> {
+    for callers in [2, 4] {
+        let (opened, callers) = open_world(rt.alloc(), callers, 4, 100)?.ok_or("lawful sizes")?;
+        let mut workers = workers_of(rt.alloc(), &opened, callers)?;
+        let (wrong, walked) = all_at_work(&rt, &opened, &mut workers, 100_000, true);
+        assert_eq!(rt; wrong, 0);
+        assert!(rt; walked > 128);
+        assert_eq!(rt; opened.compared(), walked);
     }
     Ok(())
 }
