@@ -151,6 +151,20 @@ impl Opened {
         }
     }
 
+    /// The word by which a cast to a host finds that the handle is unloaded, if it does.
+    fn cast_unloaded(&self, who: &mut Caller, h: Handle) -> Option<HandleWord>
+        requires caller { IsCallerOf self.now.runtime who.old }
+        ensures caller { IsCallerOf self.now.runtime who.new }
+    {
+        if !self.runtime.has(h) {
+            return None;
+        }
+        match self.runtime.cast(who, h, self.runtime.host(0)) {
+            Ok(_) => None,
+            Err(unloaded) => Some(unloaded.found),
+        }
+    }
+
     fn asked(&self) -> u64 {
         self.runtime.resolver().asked.load(Ordering::SeqCst)
     }
@@ -288,6 +302,8 @@ fn an_unload_takes_a_handle_from_every_caller(rt: HostRuntime) -> Result<(), Fai
     assert!(rt; opened.unload(&mut who, h));
     assert_eq!(rt; who.hand.limbo.len(), 1);
     let found = opened.found_unloaded(&mut other, 2, h).ok_or("unloaded")?;
+    assert_eq!(rt; (found.generation, found.number, found.live), (1, 3, false));
+    let found = opened.cast_unloaded(&mut other, h).ok_or("unloaded")?;
     assert_eq!(rt; (found.generation, found.number, found.live), (1, 3, false));
     assert_eq!(rt; opened.learn(&mut who, h), None);
 
