@@ -1,5 +1,5 @@
 //! Tests of what no clause says.
-ghost use Rattle.std.specs.Prelude.{◌≡◌, ◌<◌, ◌+◌, ◌*◌, ◌↔◌, [], All, IfOk, IfSome, IsTrue, slice_index};
+ghost use Rattle.std.specs.Prelude.{◌≡◌, ◌<◌, ◌+◌, ◌*◌, ◌↔◌, [], All, IfSome, IsTrue, slice_index};
 ghost use Rattle.std.proofs.Common.{rules};
 ghost use Rattle.vsd_table.specs.Seating.{key_of, IsNew, Belongs};
 ghost use Rattle.vsd_casts.specs.Ladders.{ladder, ladder_of_bits};

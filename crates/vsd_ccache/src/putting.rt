@@ -8,7 +8,7 @@ ghost use Rattle.vsd_rule.specs.CastSteps.{nothing_written};
 ghost use Rattle.vsd_rule.specs.Evidence.{HasCastEvidence};
 ghost use Rattle.vsd_table.specs.Seating.{key_of, view_of, Belongs};
 ghost use Rattle.vsd_trails.specs.declared.casting.Put.TheVariants.{Written};
-ghost use Rattle.vsd_trails.specs.CastTrails.{region_size, is_busy, making_odd, publishing, writing, growing, putting_by, putting_cast};
+ghost use Rattle.vsd_trails.specs.CastTrails.{region_size, is_busy, making_odd, publishing, writing, growing, putting_cast};
 ghost use Rattle.vsd_rows.specs.Makes.{Makes};
 ghost use Rattle.vsd_ccache.specs.Looks.{IsMissOf, WritesCasts};
 ghost use Rattle.vsd_ccache.specs.Tells.{Tells, PutTells};
