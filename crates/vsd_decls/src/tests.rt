@@ -352,116 +352,91 @@ fn methods_of_interfaces_and_lines(rt: HostRuntime) -> Result<(), Fail> {
     Ok(())
 }
 
-/// What stands before a piece that is repeated, the piece, what stands after it, how many times it may stand, and what
-/// one more shows.
-#[derive(Clone, Copy)]
-struct Limit {
-    before: &'static [u8],
-    piece: &'static [u8],
-    after: &'static [u8],
-    most: u32,
-    shows: Option<DeclError>,
-}
-
-const fn at_most(
-    before: &'static [u8],
-    piece: &'static [u8],
-    after: &'static [u8],
-    most: u32,
-    shows: Option<DeclError>,
-) -> Limit {
-    Limit {
-        before,
-        piece,
-        after,
-        most,
-        shows,
-    }
-}
-
 #[test]
 fn each_limit_and_one_past_it(rt: HostRuntime) -> Result<(), Fail> {
-    let cases: [Limit; 14] = [
-        at_most(b"", b".class A { }", b"", 1024, too_many(Counted::Types)),
-        at_most(
+    // What stands before a piece that is repeated, the piece, what stands after it, how many times it may stand, and
+    // what one more shows.
+    let cases: [(&[u8], &[u8], &[u8], u32, Option<DeclError>); 14] = [
+        (b"", b".class A { }", b"", 1024, too_many(Counted::Types)),
+        (
             b".class A {",
             b".method virtual B# M(C#, D#, E#, F#, G#, H#, I#) { }",
             b"}",
             255,
             too_many(Counted::Names),
         ),
-        at_most(
+        (
             b".class A<",
             b"T, ",
             b"T> { }",
             7,
             too_many(Counted::Parameters),
         ),
-        at_most(
+        (
             b".class A implements ",
             b"I, ",
             b"I { }",
             63,
             too_many(Counted::Interfaces),
         ),
-        at_most(
+        (
             b".class A {",
             b".method virtual void M() { }",
             b"}",
             256,
             too_many(Counted::Methods),
         ),
-        at_most(
+        (
             b".class A {",
             b".override I::M with void A::M()",
             b"}",
             256,
             too_many(Counted::Overrides),
         ),
-        at_most(
+        (
             b".class A { .method virtual void M() {",
             b" .override I::M",
             b"} }",
             256,
             too_many(Counted::Overrides),
         ),
-        at_most(
+        (
             b".class A { .method virtual void M(",
             b"A, ",
             b"A) { } }",
             15,
             too_many(Counted::Arguments),
         ),
-        at_most(
+        (
             b".class A { .override method void I::M(",
             b"A, ",
             b"A) with void A::M() }",
             15,
             too_many(Counted::Arguments),
         ),
-        at_most(b".class ", b"a", b" { }", 255, too_many(Counted::NameBytes)),
-        at_most(
+        (b".class ", b"a", b" { }", 255, too_many(Counted::NameBytes)),
+        (
             b".class A<",
             b"a",
             b"> { }",
             255,
             too_many(Counted::NameBytes),
         ),
-        at_most(
+        (
             b".class A { .method virtual void ",
             b"a",
             b"() { } }",
             255,
             too_many(Counted::NameBytes),
         ),
-        at_most(
+        (
             b".class A extends ",
             b"B`1<",
             b"int32>>>>>>>>>>>>>>> { }",
             15,
             TOO_DEEP,
         ),
-        at_most(
+        (
             b".class A extends D<",
             b"int32, ",
             b"string> { }",
@@ -469,13 +444,17 @@ fn each_limit_and_one_past_it(rt: HostRuntime) -> Result<(), Fail> {
             TOO_DEEP,
         ),
     ];
-    for case in cases {
-        let whole = filled(rt.alloc(), case.piece, case.most)?;
-        let accepted = of_parts(rt.alloc(), [case.before, whole.as_slice(), case.after])?;
-        assert_eq!(rt; accepted, None);
-        let past = filled(rt.alloc(), case.piece, case.most.saturating_add(1))?;
-        let refused = of_parts(rt.alloc(), [case.before, past.as_slice(), case.after])?;
-        assert_eq!(rt; refused, case.shows);
+    for (before, piece, after, most, shows) in cases {
+        let whole = filled(rt.alloc(), piece, most)?;
+        assert_eq!(rt;
+            of_parts(rt.alloc(), [before, whole.as_slice(), after])?,
+            None
+        );
+        let past = filled(rt.alloc(), piece, most.saturating_add(1))?;
+        assert_eq!(rt;
+            of_parts(rt.alloc(), [before, past.as_slice(), after])?,
+            shows
+        );
     }
     Ok(())
 }
