@@ -400,11 +400,7 @@ pub fn written_open<R: TypeRules>(
 
 /// A type of the first level, without what may stand after it.
 #[tactic(auto, unfolding(crate::specs::Types::outermost))]
-fn outermost<R: TypeRules>(
-    alloc: Global,
-    cursor: &mut Cursor<'_>,
-    rules: &R,
-) -> Result<Term, Stop>
+fn outermost<R: TypeRules>(alloc: Global, cursor: &mut Cursor<'_>, rules: &R) -> Result<Term, Stop>
     ensures { Reads (run _ (spec.outermost (R.rules rules.now)) cursor.old) result cursor.new }
 {
     let start = start_at(false, cursor.class());
