@@ -1,9 +1,9 @@
 -- What the code keeps of a lane is what its variables name.
-use Rattle.std.proofs.Common.{◌≡◌, ◌≢◌, ℕ, ◌+◌, ◌<◌, inl, inr, cond, nat_eq, List, [], ◌∷◌, ◌++◌, map, length, get_or, set, slice_index, take, drop, EachIndex, All, Contains, not, filter, Option, None, Some, refl, sym, ap, subst, ◌∙◌, get_or-set_same, get_or-set_other, length-set, append_assoc}
+use Rattle.std.proofs.Common.{◌≡◌, ◌≢◌, ℕ, ◌+◌, ◌<◌, inl, inr, cond, eqb, true, false, List, [], ◌∷◌, ◌++◌, map, length, get_or, set, slice_index, take, drop, EachIndex, All, Contains, Option, None, Some, refl, sym, ap, subst, ◌∙◌, get_or-set_same, get_or-set_other, length-set, append_assoc}
 use Rattle.std.proofs.lemmas.List.{drop_more, get_or-map, take_more}
-use Rattle.std.proofs.lemmas.List.Elements.{All-filter, All-contains, All-contains_itself, Contains-push_cases}
+use Rattle.std.proofs.lemmas.List.Elements.{All-cons, All-contains, All-contains_itself, All-head, All-tail, Contains-push_cases}
 use Rattle.std.proofs.lemmas.Bool.{eq-eqb, ne_eqb}
-use Rattle.vsd_ast.specs.Scripts.{IsHost, IsThere, MayFollow}
+use Rattle.vsd_ast.specs.Scripts.{IsHost, IsThere, MayFollow, without}
 use Rattle.vsd_ast.specs.declared.scripts.Host.{Host}
 use Rattle.vsd_ast.specs.declared.scripts.Op.{Op}
 use Rattle.vsd_ast.specs.declared.scripts.Op.TheVariants.{Load, Unload, Call, Cast}
@@ -60,6 +60,15 @@ kept_other types before held v other root differs k = record {
       ∙ (ap (λ b. first_of_both (cond {A = Option ℕ} b (Some root) None) (latest_load v before)) (ne_eqb other v (λ e. differs (sym e))) ∙ k.latest);
   kept = get_or-set_other held other v (get_or types root 0) 0 differs ∙ k.kept;
 }
+
+-- what holds of all variables holds of those that are left
+All-without : (P : ℕ → Type 0) (live : List ℕ) (v : ℕ) → All P live → All P (without live v)
+All-without P [] v all = all
+All-without P (u ∷ live) v all =
+    elim (eqb u v) as (λ b. All P (cond b live (u ∷ without live v))) [
+      | true ↦ All-tail P u live all
+      | false ↦ All-cons P u (without live v) (All-head P u live all) (All-without P live v (All-tail P u live all))
+    ]
 
 no_host : Host
 no_host = record { name = []; root = 0 }
@@ -130,11 +139,11 @@ module _ (hs : List Host) (types tokens : List ℕ) (names : ℕ) where
         ];
   }
   keeps before (Unload v) after held a = record {
-    live = filter (λ other. not (nat_eq other v)) a.live;
+    live = without a.live v;
     lawful = a.lawful.1;
     size = a.size;
     kept = λ u lives.
-        let old : Contains a.live u = All-contains (Contains a.live) (filter (λ other. not (nat_eq other v)) a.live) u (All-filter (λ other. not (nat_eq other v)) (Contains a.live) a.live (All-contains_itself a.live)) lives in
+        let old : Contains a.live u = All-contains (Contains a.live) (without a.live v) u (All-without (Contains a.live) a.live v (All-contains_itself a.live)) lives in
         kept_plain types before (Unload v) held u (λ x. refl) (a.kept u old);
   }
   keeps before (Call site o) after held a = record {

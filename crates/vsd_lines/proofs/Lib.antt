@@ -1,4 +1,5 @@
 -- The lemmas of this crate.
 pub mod AfterErrors
+pub mod Agreeing
 pub mod Moves
 pub mod Lanes
