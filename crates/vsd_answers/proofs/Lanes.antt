@@ -1,6 +1,6 @@
 -- What the code keeps of a lane is what its variables name.
-use Rattle.std.proofs.Common.{◌≡◌, ◌≢◌, ℕ, ◌+◌, ◌<◌, inl, inr, cond, eqb, true, false, List, [], ◌∷◌, ◌++◌, map, length, get_or, set, slice_index, take, drop, EachIndex, All, Contains, Option, None, Some, refl, sym, ap, subst, ◌∙◌, get_or-set_same, get_or-set_other, length-set, append_assoc}
-use Rattle.std.proofs.lemmas.List.{drop_more, get_or-map, take_more}
+use Rattle.std.proofs.Common.{◌≡◌, ◌≢◌, ℕ, zero, suc, ◌+◌, ◌<◌, inl, inr, cond, eqb, true, false, List, [], ◌∷◌, ◌++◌, map, length, get_or, set, slice_get, slice_index, take, drop, EachIndex, All, Contains, Option, None, Some, refl, sym, ap, subst, ◌∙◌, get_or-set_same, get_or-set_other, length-set, append_assoc, arith}
+use Rattle.std.proofs.lemmas.List.{drop_more, get_or-map, length-map, take_more}
 use Rattle.std.proofs.lemmas.List.Elements.{All-cons, All-contains, All-contains_itself, All-head, All-tail, Contains-push_cases}
 use Rattle.std.proofs.lemmas.Bool.{eq-eqb, ne_eqb}
 use Rattle.vsd_ast.specs.Scripts.{IsHost, IsThere, MayFollow, without}
@@ -9,7 +9,8 @@ use Rattle.vsd_ast.specs.declared.scripts.Op.{Op}
 use Rattle.vsd_ast.specs.declared.scripts.Op.TheVariants.{Load, Unload, Call, Cast}
 use Rattle.vsd_ast.specs.declared.scripts.Var.{Var}
 use Rattle.vsd_ast.specs.declared.scripts.Var.TheVariants as var
-use Rattle.vsd_answers.specs.Answers.{World, answer_by, answers_after, entry, first_of_both, latest_load, loaded, named_type, type_of_root}
+use Rattle.vsd_rule.specs.Lists.{entry}
+use Rattle.vsd_answers.specs.Answers.{World, answer_by, answers_after, first_of_both, latest_load, loaded, named_type, type_of_root}
 use Rattle.vsd_answers.specs.Held.{CanAnswerOne, IsInReach, held_after, held_type}
 use Rattle.vsd_answers.proofs.Loads.{latest_load-push}
 
@@ -70,6 +71,12 @@ All-without P (u ∷ live) v all =
       | false ↦ All-cons P u (without live v) (All-head P u live all) (All-without P live v (All-tail P u live all))
     ]
 
+-- a number that is there is got
+got : (xs : List ℕ) (i : ℕ) → i < length xs → slice_get xs i ≡ Some (get_or xs i 0)
+got [] i below = absurd (omega arith)
+got (x ∷ xs) zero below = refl
+got (x ∷ xs) (suc i) below = got xs i (omega arith)
+
 no_host : Host
 no_host = record { name = []; root = 0 }
 
@@ -89,7 +96,7 @@ module _ (hs : List Host) (types : List ℕ) (sites names : ℕ) (before : List 
 
   same_type : ((v : ℕ) → Contains live v → IsKept types before held v) → (o : Var) → IsThere (length types) sites (length hs) names live o
       → held_type hs types held o ≡ named_type hs types before o
-  same_type kept (var.Host h) there = refl
+  same_type kept (var.Host h) there = sym (ap (type_of_root hs types) (got (map (λ (x : Host). x.root) hs) h (subst (λ n. h < n) (sym (length-map hs (λ (x : Host). x.root))) there)))
   same_type kept (var.Own v) there =
       let k = kept v there.1 in
       k.kept ∙ ap (type_of_root hs types) (sym k.latest)
