@@ -30,7 +30,7 @@ module _ (sites hosts : ℕ) (types : List ℕ) where
     pub kept : (v : ℕ) → Contains live v → IsKept types before held v
 
 -- an operation that loads nothing changes nothing
-kept_plain : (types : List ℕ) (before : List Op) (op : Op) (held : List ℕ) (v : ℕ) → ((u : ℕ) → loaded u op ≡ None)
+pub kept_plain : (types : List ℕ) (before : List Op) (op : Op) (held : List ℕ) (v : ℕ) → ((u : ℕ) → loaded u op ≡ None)
     → IsKept types before held v → IsKept types (before ++ op ∷ []) held v
 kept_plain types before op held v plain k = record {
   root = k.root;
@@ -133,7 +133,7 @@ module _ (hs : List Host) (types tokens : List ℕ) (names : ℕ) where
       ap (λ t. entry w.cmp w.types t (held_type hs types held target) ∷ []) first
       ∙ ap (λ u. entry w.cmp w.types (named_type hs types (before ++ Cast source target ∷ []) source) u ∷ []) second
 
-  keeps : (before : List Op) (op : Op) (after : List Op) (held : List ℕ) → AreKept (length tokens) (length hs) types before (op ∷ after) held names
+  pub keeps : (before : List Op) (op : Op) (after : List Op) (held : List ℕ) → AreKept (length tokens) (length hs) types before (op ∷ after) held names
       → AreKept (length tokens) (length hs) types (before ++ op ∷ []) after (held_after types held op) names
   keeps before (Load v root) after held a = record {
     live = a.live ++ v ∷ [];

@@ -2,4 +2,5 @@
 pub mod AfterErrors
 pub mod Agreeing
 pub mod Moves
+pub mod Saying
 pub mod Lanes
