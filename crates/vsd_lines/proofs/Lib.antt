@@ -2,5 +2,6 @@
 pub mod AfterErrors
 pub mod Agreeing
 pub mod Moves
+pub mod Once
 pub mod Saying
 pub mod Lanes

@@ -30,3 +30,10 @@ pub fn said_law<T: Telling>()
         → Agrees T.says T.fits script w types tokens method slot → CanAnswer w script types tokens
         → IsScriptText T.says T.fits script (text_of script tokens method slot (answers_of w script types tokens)) }
 {}
+
+/// A script has one text by types at most, where each call says one thing.
+pub fn one_text_law<T: Telling>()
+    ensures { (script : Script)
+        → ((t interface : Term) (slot : ℕ) (a b : List ℕ) → T.says t interface slot a → T.says t interface slot b → a ≡ b)
+        → (a b : List ℕ) → IsScriptText T.says T.fits script a → IsScriptText T.says T.fits script b → a ≡ b }
+{}

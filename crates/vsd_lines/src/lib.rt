@@ -8,7 +8,7 @@ mod pages;
 mod writing;
 
 pub use errors::LinesError;
-pub use laws::{Telling, said_law, text_law};
+pub use laws::{Telling, one_text_law, said_law, text_law};
 pub use writing::write_lines;
 
 #[cfg(test)]
