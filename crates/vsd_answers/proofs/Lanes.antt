@@ -1,15 +1,16 @@
 -- What the code keeps of a lane is what its variables name.
-use Rattle.std.proofs.Common.{◌≡◌, ◌≢◌, ℕ, ◌+◌, ◌<◌, inl, inr, cond, nat_eq, List, [], ◌∷◌, ◌++◌, map, length, get_or, set, slice_index, take, drop, EachIndex, All, Contains, not, filter, Option, None, Some, refl, sym, ap, subst, ◌∙◌, get_or-set_same, get_or-set_other, length-set, append_assoc}
-use Rattle.std.proofs.lemmas.List.{drop_more, get_or-map, take_more}
-use Rattle.std.proofs.lemmas.List.Elements.{All-filter, All-contains, All-contains_itself, Contains-push_cases}
+use Rattle.std.proofs.Common.{◌≡◌, ◌≢◌, ℕ, zero, suc, ◌+◌, ◌<◌, inl, inr, cond, eqb, true, false, List, [], ◌∷◌, ◌++◌, map, length, get_or, set, slice_get, slice_index, take, drop, EachIndex, All, Contains, Option, None, Some, refl, sym, ap, subst, ◌∙◌, get_or-set_same, get_or-set_other, length-set, append_assoc, arith}
+use Rattle.std.proofs.lemmas.List.{drop_more, get_or-map, length-map, take_more}
+use Rattle.std.proofs.lemmas.List.Elements.{All-cons, All-contains, All-contains_itself, All-head, All-tail, Contains-push_cases}
 use Rattle.std.proofs.lemmas.Bool.{eq-eqb, ne_eqb}
-use Rattle.vsd_ast.specs.Scripts.{IsHost, IsThere, MayFollow}
+use Rattle.vsd_ast.specs.Scripts.{IsHost, IsThere, MayFollow, without}
 use Rattle.vsd_ast.specs.declared.scripts.Host.{Host}
 use Rattle.vsd_ast.specs.declared.scripts.Op.{Op}
 use Rattle.vsd_ast.specs.declared.scripts.Op.TheVariants.{Load, Unload, Call, Cast}
 use Rattle.vsd_ast.specs.declared.scripts.Var.{Var}
 use Rattle.vsd_ast.specs.declared.scripts.Var.TheVariants as var
-use Rattle.vsd_answers.specs.Answers.{World, answer_by, answers_after, entry, first_of_both, latest_load, loaded, named_type, type_of_root}
+use Rattle.vsd_rule.specs.Lists.{entry}
+use Rattle.vsd_answers.specs.Answers.{World, answer_by, answers_after, first_of_both, latest_load, loaded, named_type, type_of_root}
 use Rattle.vsd_answers.specs.Held.{CanAnswerOne, IsInReach, held_after, held_type}
 use Rattle.vsd_answers.proofs.Loads.{latest_load-push}
 
@@ -29,7 +30,7 @@ module _ (sites hosts : ℕ) (types : List ℕ) where
     pub kept : (v : ℕ) → Contains live v → IsKept types before held v
 
 -- an operation that loads nothing changes nothing
-kept_plain : (types : List ℕ) (before : List Op) (op : Op) (held : List ℕ) (v : ℕ) → ((u : ℕ) → loaded u op ≡ None)
+pub kept_plain : (types : List ℕ) (before : List Op) (op : Op) (held : List ℕ) (v : ℕ) → ((u : ℕ) → loaded u op ≡ None)
     → IsKept types before held v → IsKept types (before ++ op ∷ []) held v
 kept_plain types before op held v plain k = record {
   root = k.root;
@@ -61,6 +62,21 @@ kept_other types before held v other root differs k = record {
   kept = get_or-set_other held other v (get_or types root 0) 0 differs ∙ k.kept;
 }
 
+-- what holds of all variables holds of those that are left
+All-without : (P : ℕ → Type 0) (live : List ℕ) (v : ℕ) → All P live → All P (without live v)
+All-without P [] v all = all
+All-without P (u ∷ live) v all =
+    elim (eqb u v) as (λ b. All P (cond b live (u ∷ without live v))) [
+      | true ↦ All-tail P u live all
+      | false ↦ All-cons P u (without live v) (All-head P u live all) (All-without P live v (All-tail P u live all))
+    ]
+
+-- a number that is there is got
+got : (xs : List ℕ) (i : ℕ) → i < length xs → slice_get xs i ≡ Some (get_or xs i 0)
+got [] i below = absurd (omega arith)
+got (x ∷ xs) zero below = refl
+got (x ∷ xs) (suc i) below = got xs i (omega arith)
+
 no_host : Host
 no_host = record { name = []; root = 0 }
 
@@ -80,7 +96,7 @@ module _ (hs : List Host) (types : List ℕ) (sites names : ℕ) (before : List 
 
   same_type : ((v : ℕ) → Contains live v → IsKept types before held v) → (o : Var) → IsThere (length types) sites (length hs) names live o
       → held_type hs types held o ≡ named_type hs types before o
-  same_type kept (var.Host h) there = refl
+  same_type kept (var.Host h) there = sym (ap (type_of_root hs types) (got (map (λ (x : Host). x.root) hs) h (subst (λ n. h < n) (sym (length-map hs (λ (x : Host). x.root))) there)))
   same_type kept (var.Own v) there =
       let k = kept v there.1 in
       k.kept ∙ ap (type_of_root hs types) (sym k.latest)
@@ -117,7 +133,7 @@ module _ (hs : List Host) (types tokens : List ℕ) (names : ℕ) where
       ap (λ t. entry w.cmp w.types t (held_type hs types held target) ∷ []) first
       ∙ ap (λ u. entry w.cmp w.types (named_type hs types (before ++ Cast source target ∷ []) source) u ∷ []) second
 
-  keeps : (before : List Op) (op : Op) (after : List Op) (held : List ℕ) → AreKept (length tokens) (length hs) types before (op ∷ after) held names
+  pub keeps : (before : List Op) (op : Op) (after : List Op) (held : List ℕ) → AreKept (length tokens) (length hs) types before (op ∷ after) held names
       → AreKept (length tokens) (length hs) types (before ++ op ∷ []) after (held_after types held op) names
   keeps before (Load v root) after held a = record {
     live = a.live ++ v ∷ [];
@@ -130,11 +146,11 @@ module _ (hs : List Host) (types tokens : List ℕ) (names : ℕ) where
         ];
   }
   keeps before (Unload v) after held a = record {
-    live = filter (λ other. not (nat_eq other v)) a.live;
+    live = without a.live v;
     lawful = a.lawful.1;
     size = a.size;
     kept = λ u lives.
-        let old : Contains a.live u = All-contains (Contains a.live) (filter (λ other. not (nat_eq other v)) a.live) u (All-filter (λ other. not (nat_eq other v)) (Contains a.live) a.live (All-contains_itself a.live)) lives in
+        let old : Contains a.live u = All-contains (Contains a.live) (without a.live v) u (All-without (Contains a.live) a.live v (All-contains_itself a.live)) lives in
         kept_plain types before (Unload v) held u (λ x. refl) (a.kept u old);
   }
   keeps before (Call site o) after held a = record {

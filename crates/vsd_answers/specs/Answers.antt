@@ -1,5 +1,6 @@
 -- What a script answers: which type each variable names at each operation, and so each call's target and each cast's value.
-use Rattle.std.specs.Prelude.{All, ◌≡◌, ℕ, ◌+◌, ◌*◌, ◌<◌, cond, nat_eq, List, [], ◌∷◌, ◌++◌, map, length, slice_index, EachIndex, Option, None, Some}
+use Rattle.std.specs.Prelude.{All, ◌≡◌, ℕ, ◌<◌, cond, nat_eq, List, [], ◌∷◌, ◌++◌, map, length, slice_get, slice_index, EachIndex, Option, None, Some}
+use Rattle.vsd_rule.specs.Lists.{entry}
 use Rattle.vsd_ast.specs.Scripts.{IsWellFormedScript}
 use Rattle.vsd_ast.specs.declared.scripts.Host.{Host}
 use Rattle.vsd_ast.specs.declared.scripts.Lane.{Lane}
@@ -44,10 +45,6 @@ pub record IsLatestLoad (variable root : ℕ) (ops : List Op) : Type 0 where
 abbrev pub world : ℕ → ℕ → List ℕ → List ℕ → World
 world types tokens sel cmp = record { types = types; tokens = tokens; sel = sel; cmp = cmp }
 
--- an entry of a table that lies row by row in a list
-abbrev pub entry : List ℕ → ℕ → ℕ → ℕ → ℕ
-entry list width i j = slice_index list (i * width + j)
-
 -- what an operation answers where its variables name these types: a call its target, a cast its value
 abbrev pub answer_by : World → List ℕ → (Var → ℕ) → Op → List ℕ
 answer_by w tokens named (Load variable root) = []
@@ -55,20 +52,20 @@ answer_by w tokens named (Unload variable) = []
 answer_by w tokens named (Call site object) = entry w.sel w.tokens (named object) (slice_index tokens site) ∷ []
 answer_by w tokens named (Cast source target) = entry w.cmp w.types (named source) (named target) ∷ []
 
-module _ (hosts : List Host) (types : List ℕ) where
-  -- the type of a host's root
-  abbrev pub host_type : ℕ → ℕ
-  host_type host = slice_index types (slice_index (map (λ (h : Host). h.root) hosts) host)
+-- the root of a variable after these operations: that of its latest load, or the host's
+abbrev pub root_of : List Host → List Op → Var → Option ℕ
+root_of hosts before (var.Host host) = slice_get (map (λ (h : Host). h.root) hosts) host
+root_of hosts before (var.Own variable) = latest_load variable before
 
+module _ (hosts : List Host) (types : List ℕ) where
   -- the type of a root; a variable that was never loaded names nothing, and 0 stands for that
   abbrev pub type_of_root : Option ℕ → ℕ
   type_of_root (Some root) = slice_index types root
   type_of_root None = 0
 
-  -- the type that a variable names after these operations: that of its latest load, or the host's
+  -- the type that a variable names after these operations
   abbrev pub named_type : List Op → Var → ℕ
-  named_type before (var.Host host) = host_type host
-  named_type before (var.Own variable) = type_of_root (latest_load variable before)
+  named_type before variable = type_of_root (root_of hosts before variable)
 
   -- the answers of operations in order, which stand after those before: each by what its variables name after all
   -- operations up to and with itself

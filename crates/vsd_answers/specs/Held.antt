@@ -5,7 +5,6 @@ use Rattle.vsd_ast.specs.declared.scripts.Op.{Op}
 use Rattle.vsd_ast.specs.declared.scripts.Op.TheVariants.{Load, Unload, Call, Cast}
 use Rattle.vsd_ast.specs.declared.scripts.Var.{Var}
 use Rattle.vsd_ast.specs.declared.scripts.Var.TheVariants as var
-use Rattle.vsd_answers.specs.Answers.{host_type}
 
 -- the kept types after an operation
 abbrev pub held_after : List ℕ → List ℕ → Op → List ℕ
@@ -13,6 +12,10 @@ held_after types held (Load variable root) = slice_set held variable (slice_inde
 held_after types held (Unload variable) = held
 held_after types held (Call site object) = held
 held_after types held (Cast source target) = held
+
+-- the type of a host's root
+abbrev pub host_type : List Host → List ℕ → ℕ → ℕ
+host_type hosts types host = slice_index types (slice_index (map (λ (h : Host). h.root) hosts) host)
 
 -- the type that a variable names by what is kept
 abbrev pub held_type : List Host → List ℕ → List ℕ → Var → ℕ

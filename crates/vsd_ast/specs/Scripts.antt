@@ -1,5 +1,5 @@
 -- What the grammar and its limits make of scripts: numbers in range, lists not too long, variables that live where they are used.
-use Rattle.std.specs.Prelude.{ℕ, ◌<◌, ◌≤◌, not, nat_eq, List, [], ◌∷◌, ◌++◌, length, filter, sum_by, All, Contains}
+use Rattle.std.specs.Prelude.{ℕ, ◌<◌, ◌≤◌, cond, nat_eq, List, [], ◌∷◌, ◌++◌, length, sum_by, All, Contains}
 use Rattle.vsd_ast.specs.WellFormed.{IsName}
 use Rattle.vsd_ast.specs.declared.scripts.Host.{Host}
 use Rattle.vsd_ast.specs.declared.scripts.Lane.{Lane}
@@ -10,10 +10,15 @@ use Rattle.vsd_ast.specs.declared.scripts.Site.{Site}
 use Rattle.vsd_ast.specs.declared.scripts.Var.{Var}
 use Rattle.vsd_ast.specs.declared.scripts.Var.TheVariants as var
 
+-- the variables without this one, which stands there once at most
+abbrev pub without : List ℕ → ℕ → List ℕ
+without [] variable = []
+without (other ∷ others) variable = cond (nat_eq other variable) others (other ∷ without others variable)
+
 -- the variables of a lane that live after an operation, in order of loading
 abbrev pub live_after : List ℕ → Op → List ℕ
 live_after live (Load variable root) = live ++ variable ∷ []
-live_after live (Unload variable) = filter (λ other. not (nat_eq other variable)) live
+live_after live (Unload variable) = without live variable
 live_after live (Call site object) = live
 live_after live (Cast source target) = live
 

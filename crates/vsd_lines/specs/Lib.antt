@@ -2,3 +2,4 @@
 pub mod Lines
 pub mod Moving
 pub mod Names
+pub mod Said

@@ -75,6 +75,26 @@ module _ (sites hosts : List (List ℕ)) (tokens : List ℕ) (method slot : ℕ 
 abbrev pub text_of : Script → List ℕ → (ℕ → List ℕ) → (ℕ → List ℕ) → List (List ℕ) → List ℕ
 text_of script tokens method slot answers = lanes_text (site_names script) (host_names script) tokens method slot 0 script.lanes answers
 
+-- two choices of texts agree on what these answers of operations name: methods that are called, and slots that are missing
+module _ (tokens : List ℕ) (method other_method slot other_slot : ℕ → List ℕ) where
+  abbrev pub AgreeOnTarget : ℕ → ℕ → Type 0
+  AgreeOnTarget token zero = slot token ≡ other_slot token
+  AgreeOnTarget token (suc number) = method number ≡ other_method number
+
+  abbrev pub AgreeOnOne : Op → ℕ → Type 0
+  AgreeOnOne (Load variable root) answer = Unit {0}
+  AgreeOnOne (Unload variable) answer = Unit {0}
+  AgreeOnOne (Call site object) answer = AgreeOnTarget (slice_index tokens site) answer
+  AgreeOnOne (Cast source target) answer = Unit {0}
+
+  abbrev pub AgreeOnLane : List Op → List ℕ → Type 0
+  AgreeOnLane [] answers = Unit {0}
+  AgreeOnLane (op ∷ ops) answers = AgreeOnOne op (slice_index answers 0) × AgreeOnLane ops (drop (asks op) answers)
+
+  abbrev pub AgreeOn : List Lane → List (List ℕ) → Type 0
+  AgreeOn [] answers = Unit {0}
+  AgreeOn (lane ∷ lanes) answers = AgreeOnLane lane.ops (slice_index_or answers 0 []) × AgreeOn lanes (drop 1 answers)
+
 -- An operation's answer stands at this place, where it has one: of a call 0 or one more than the number of one of so many
 -- methods, of a cast 1 or 0.
 abbrev pub IsAnswerAt : ℕ → Op → List ℕ → ℕ → Type 0

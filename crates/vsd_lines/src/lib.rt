@@ -2,11 +2,13 @@
 #![tactic(auto)]
 
 mod errors;
+mod laws;
 mod lines;
 mod pages;
 mod writing;
 
 pub use errors::LinesError;
+pub use laws::{Telling, one_text_law, said_law, text_law};
 pub use writing::write_lines;
 
 #[cfg(test)]
