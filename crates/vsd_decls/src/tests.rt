@@ -445,18 +445,29 @@ fn each_limit_and_one_past_it(rt: HostRuntime) -> Result<(), Fail> {
         ),
     ];
     for (before, piece, after, most, shows) in cases {
-        let whole = filled(rt.alloc(), piece, most)?;
-        assert_eq!(rt;
-            of_parts(rt.alloc(), [before, whole.as_slice(), after])?,
-            None
-        );
-        let past = filled(rt.alloc(), piece, most.saturating_add(1))?;
-        assert_eq!(rt;
-            of_parts(rt.alloc(), [before, past.as_slice(), after])?,
-            shows
-        );
+        assert_eq!(rt; of_filled(rt.alloc(), before, piece, most, after)?, None);
+        let past = most.saturating_add(1);
+        assert_eq!(rt; of_filled(rt.alloc(), before, piece, past, after)?, shows);
     }
     Ok(())
+}
+
+/// Why a text is refused that has a piece so many times between what stands before and after it.
+fn of_filled(
+    alloc: Global,
+    before: &[u8],
+    piece: &[u8],
+    times: u32,
+    after: &[u8],
+) -> Result<Option<DeclError>, Fail> {
+    let mut text = Vec::new(alloc);
+    text.extend_from_slice(b"vsd 1\n")?;
+    text.extend_from_slice(before)?;
+    let pieces = filled(alloc, piece, times)?;
+    text.extend_from_slice(pieces.as_slice())?;
+    text.extend_from_slice(after)?;
+    text.extend_from_slice(b"\n%%\n")?;
+    refusal(alloc, text.as_slice())
 }
 
 /// A refusal in the third line of a text.
