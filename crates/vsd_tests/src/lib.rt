@@ -1,0 +1,5 @@
+//! Tests that cross crates of the reading side, over whole texts.
+#![tactic(auto)]
+
+#[cfg(test)]
+mod checking;
