@@ -4,3 +4,4 @@ pub mod LiveLemmas
 pub mod VariableLemmas
 pub mod Deciding
 pub mod Meant
+pub mod AllowedLemmas

@@ -7,3 +7,4 @@ pub mod Names
 pub mod Steps
 pub mod Productions
 pub mod Laws
+pub mod Allowed
