@@ -2,9 +2,9 @@
 use crate::{Counted, DeclError, Form, read_decls};
 use std::alloc::Global;
 use std::test::Fail;
-use vsd_ast::{Access, Decls, Implementer, Sign};
+use vsd_ast::{Access, Decl, Decls, Implementer, Located, Method, Override, Param, Sign};
 use vsd_terms::{Builtin, Term};
-use vsd_text::lex;
+use vsd_text::{Token, lex};
 
 fn declared(alloc: Global, text: &[u8]) -> Result<Result<Decls, DeclError>, Fail> {
     let tokens = lex(alloc, text)?;
@@ -155,7 +155,7 @@ fn items_of_each_kind(rt: HostRuntime) -> Result<(), Fail> {
 
 #[test]
 fn members_of_each_kind(rt: HostRuntime) -> Result<(), Fail> {
-    let cases: [(&[u8], Option<DeclError>); 58] = [
+    let cases: [(&[u8], Option<DeclError>); 60] = [
         (
             b".field int32 x .property y { } .event z { } .custom a .pack 1 .size 2 .param [1] .interfaceimpl b .data c .permissionset d .language e .line 3",
             None,
@@ -292,6 +292,14 @@ fn members_of_each_kind(rt: HostRuntime) -> Result<(), Fail> {
             b".override method void [x]System.Object::M() with void C::M()",
             None,
         ),
+        (
+            b".override method int32 [x]System.Object::M() with void C::M()",
+            unsupported(Form::Array),
+        ),
+        (
+            b".method virtual void M([in] ...) { }",
+            unsupported(Form::Vararg),
+        ),
     ];
     for (members, wanted) in cases {
         assert_eq!(rt; of_members(rt.alloc(), members)?, wanted);
@@ -344,116 +352,91 @@ fn methods_of_interfaces_and_lines(rt: HostRuntime) -> Result<(), Fail> {
     Ok(())
 }
 
-/// What stands before a piece that is repeated, the piece, what stands after it, how many times it may stand, and what
-/// one more shows.
-#[derive(Clone, Copy)]
-struct Limit {
-    before: &'static [u8],
-    piece: &'static [u8],
-    after: &'static [u8],
-    most: u32,
-    shows: Option<DeclError>,
-}
-
-const fn at_most(
-    before: &'static [u8],
-    piece: &'static [u8],
-    after: &'static [u8],
-    most: u32,
-    shows: Option<DeclError>,
-) -> Limit {
-    Limit {
-        before,
-        piece,
-        after,
-        most,
-        shows,
-    }
-}
-
 #[test]
 fn each_limit_and_one_past_it(rt: HostRuntime) -> Result<(), Fail> {
-    let cases: [Limit; 14] = [
-        at_most(b"", b".class A { }", b"", 1024, too_many(Counted::Types)),
-        at_most(
+    // What stands before a piece that is repeated, the piece, what stands after it, how many times it may stand, and
+    // what one more shows.
+    let cases: [(&[u8], &[u8], &[u8], u32, Option<DeclError>); 14] = [
+        (b"", b".class A { }", b"", 1024, too_many(Counted::Types)),
+        (
             b".class A {",
             b".method virtual B# M(C#, D#, E#, F#, G#, H#, I#) { }",
             b"}",
             255,
             too_many(Counted::Names),
         ),
-        at_most(
+        (
             b".class A<",
             b"T, ",
             b"T> { }",
             7,
             too_many(Counted::Parameters),
         ),
-        at_most(
+        (
             b".class A implements ",
             b"I, ",
             b"I { }",
             63,
             too_many(Counted::Interfaces),
         ),
-        at_most(
+        (
             b".class A {",
             b".method virtual void M() { }",
             b"}",
             256,
             too_many(Counted::Methods),
         ),
-        at_most(
+        (
             b".class A {",
             b".override I::M with void A::M()",
             b"}",
             256,
             too_many(Counted::Overrides),
         ),
-        at_most(
+        (
             b".class A { .method virtual void M() {",
             b" .override I::M",
             b"} }",
             256,
             too_many(Counted::Overrides),
         ),
-        at_most(
+        (
             b".class A { .method virtual void M(",
             b"A, ",
             b"A) { } }",
             15,
             too_many(Counted::Arguments),
         ),
-        at_most(
+        (
             b".class A { .override method void I::M(",
             b"A, ",
             b"A) with void A::M() }",
             15,
             too_many(Counted::Arguments),
         ),
-        at_most(b".class ", b"a", b" { }", 255, too_many(Counted::NameBytes)),
-        at_most(
+        (b".class ", b"a", b" { }", 255, too_many(Counted::NameBytes)),
+        (
             b".class A<",
             b"a",
             b"> { }",
             255,
             too_many(Counted::NameBytes),
         ),
-        at_most(
+        (
             b".class A { .method virtual void ",
             b"a",
             b"() { } }",
             255,
             too_many(Counted::NameBytes),
         ),
-        at_most(
+        (
             b".class A extends ",
             b"B`1<",
             b"int32>>>>>>>>>>>>>>> { }",
             15,
             TOO_DEEP,
         ),
-        at_most(
+        (
             b".class A extends D<",
             b"int32, ",
             b"string> { }",
@@ -461,15 +444,30 @@ fn each_limit_and_one_past_it(rt: HostRuntime) -> Result<(), Fail> {
             TOO_DEEP,
         ),
     ];
-    for case in cases {
-        let whole = filled(rt.alloc(), case.piece, case.most)?;
-        let accepted = of_parts(rt.alloc(), [case.before, whole.as_slice(), case.after])?;
-        assert_eq!(rt; accepted, None);
-        let past = filled(rt.alloc(), case.piece, case.most + 1)?;
-        let refused = of_parts(rt.alloc(), [case.before, past.as_slice(), case.after])?;
-        assert_eq!(rt; refused, case.shows);
+    for (before, piece, after, most, shows) in cases {
+        assert_eq!(rt; of_filled(rt.alloc(), before, piece, most, after)?, None);
+        let past = most.saturating_add(1);
+        assert_eq!(rt; of_filled(rt.alloc(), before, piece, past, after)?, shows);
     }
     Ok(())
+}
+
+/// Why a text is refused that has a piece so many times between what stands before and after it.
+fn of_filled(
+    alloc: Global,
+    before: &[u8],
+    piece: &[u8],
+    times: u32,
+    after: &[u8],
+) -> Result<Option<DeclError>, Fail> {
+    let mut text = Vec::new(alloc);
+    text.extend_from_slice(b"vsd 1\n")?;
+    text.extend_from_slice(before)?;
+    let pieces = filled(alloc, piece, times)?;
+    text.extend_from_slice(pieces.as_slice())?;
+    text.extend_from_slice(after)?;
+    text.extend_from_slice(b"\n%%\n")?;
+    refusal(alloc, text.as_slice())
 }
 
 /// A refusal in the third line of a text.
@@ -595,33 +593,51 @@ site s = IShape::Sides; host q = Square; lane { call s q; }
 #[test]
 fn the_trees_of_a_longer_text(rt: HostRuntime) -> Result<(), Fail> {
     let tokens = lex(rt.alloc(), LONG)?;
-    let decls = read_decls(rt.alloc(), LONG, tokens.as_slice())?;
-    let Decls { names, list, rest } = decls;
+    let Decls { names, list, rest } = read_decls(rt.alloc(), LONG, tokens.as_slice())?;
     assert_eq!(rt; names.len(), 2);
-    assert_eq!(rt; names.name(0), b"IShape".as_slice());
-    assert_eq!(rt; names.name(1), b"Square".as_slice());
-    assert_eq!(rt; tokens[rest as usize].line, 36);
-    assert_eq!(rt; list.len(), 2);
-    let shape = &list.as_slice()[0];
-    assert!(rt; shape.is_interface && shape.is_abstract && !shape.sealed && shape.base.is_none());
-    assert_eq!(rt; shape.line, 7);
-    let square = &list.as_slice()[1];
-    assert!(rt; !square.is_interface && square.name == 1 && square.line == 14);
-    assert_eq!(rt; square.interfaces.as_slice()[0].line, 16);
-    assert_eq!(rt; square.methods.len(), 1);
-    let sides = &square.methods.as_slice()[0];
-    assert!(rt; sides.newslot && sides.is_final && !sides.is_abstract && sides.line == 19);
-    assert_eq!(rt; sides.access, Access::Public);
-    assert_eq!(rt; sides.name.as_slice(), b"Sides".as_slice());
-    assert!(rt; is_builtin(&sides.signature.result, Builtin::Int32));
+    assert_eq!(rt; names.find(b"IShape"), Some(0));
+    assert_eq!(rt; names.find(b"Square"), Some(1));
+    assert!(rt; begins_at(tokens.as_slice(), rest, 36));
+    assert!(rt; are_shapes(list.as_slice()));
     Ok(())
 }
 
-fn is_builtin(term: &Option<Term>, wanted: Builtin) -> bool {
-    match term {
-        Some(Term::Builtin(builtin)) => *builtin == wanted,
+/// Whether the token of this index stands on this line.
+fn begins_at(tokens: &[Token], index: u32, line: u32) -> bool {
+    match tokens.get(index as usize) {
+        Some(token) => token.line == line,
+        None => false,
+    }
+}
+
+fn are_shapes(list: &[Decl]) -> bool {
+    match list {
+        [shape, square] => is_shape(shape) && is_square(square),
         _ => false,
     }
+}
+
+fn is_shape(decl: &Decl) -> bool {
+    decl.name == 0 && decl.line == 7 && decl.is_interface && decl.is_abstract && decl.base.is_none()
+}
+
+fn is_square(decl: &Decl) -> bool {
+    if decl.name != 1 || decl.line != 14 || decl.is_interface || decl.sealed {
+        return false;
+    }
+    match (decl.interfaces.as_slice(), decl.methods.as_slice()) {
+        ([interface], [method]) => interface.line == 16 && is_sides(method),
+        _ => false,
+    }
+}
+
+fn is_sides(method: &Method) -> bool {
+    if method.line != 19 || !method.newslot || !method.is_final || method.is_abstract {
+        return false;
+    }
+    method.access == Access::Public
+        && method.name.as_slice() == b"Sides".as_slice()
+        && matches!(method.signature.result, Some(Term::Builtin(Builtin::Int32)))
 }
 
 const GENERIC: &[u8] = b"vsd 1 .class public sealed C`2<+ T, - U, V> extends [x]System.ValueType
@@ -635,29 +651,38 @@ fn the_trees_of_parameters_and_overrides(rt: HostRuntime) -> Result<(), Fail> {
     let Decls { names, list, rest } = read_decls(rt.alloc(), GENERIC, tokens.as_slice())?;
     assert_eq!(rt; rest as usize, tokens.len());
     assert_eq!(rt; names.len(), 5);
-    assert_eq!(rt; names.name(3), b"K`1".as_slice());
-    let decl = &list.as_slice()[0];
-    let signs = [Sign::Plus, Sign::Minus, Sign::Plain];
-    for (param, sign) in decl.params.as_slice().iter().zip(signs) {
-        assert_eq!(rt; param.sign, sign);
-    }
-    assert_eq!(rt; decl.interfaces.len(), 2);
-    assert!(rt; names_parameter(&decl.interfaces.as_slice()[0].term, 1, 1));
-    assert_eq!(rt; decl.methods.len(), 2);
-    let method = &decl.methods.as_slice()[0];
-    assert!(rt; method.access == Access::Public && !method.newslot);
-    assert!(rt; method.signature.result.as_ref().is_some_and(names_second));
-    assert_eq!(rt; method.signature.arguments.len(), 2);
-    assert_eq!(rt; decl.methods.as_slice()[1].access, Access::Other);
-    assert_eq!(rt; decl.overrides.len(), 2);
-    let own = &decl.overrides.as_slice()[0];
-    assert!(rt; is_own(&own.body, 0) && own.signature.is_some() && own.line == 3);
-    let named = &decl.overrides.as_slice()[1];
-    assert!(rt; !is_own(&named.body, 0) && named.signature.is_none() && named.line == 4);
+    assert_eq!(rt; names.find(b"K`1"), Some(3));
+    assert!(rt; are_generic(list.as_slice()));
     Ok(())
 }
 
-/// Whether the term is the named type of this number with this parameter as its first argument.
+fn are_generic(list: &[Decl]) -> bool {
+    match list {
+        [decl] => {
+            are_signed(decl.params.as_slice())
+                && are_named(decl.interfaces.as_slice())
+                && are_methods(decl.methods.as_slice())
+                && are_overrides(decl.overrides.as_slice())
+        }
+        _ => false,
+    }
+}
+
+fn are_signed(params: &[Param]) -> bool {
+    match params {
+        [t, u, v] => t.sign == Sign::Plus && u.sign == Sign::Minus && v.sign == Sign::Plain,
+        _ => false,
+    }
+}
+
+fn are_named(interfaces: &[Located]) -> bool {
+    match interfaces {
+        [first, _] => names_parameter(&first.term, 1, 1) && first.line == 2,
+        _ => false,
+    }
+}
+
+/// Whether the term is the named type of this number with this parameter as its one argument.
 fn names_parameter(term: &Term, number: u16, place: u8) -> bool {
     match term {
         Term::Named { name, args } => match args.as_slice() {
@@ -668,13 +693,31 @@ fn names_parameter(term: &Term, number: u16, place: u8) -> bool {
     }
 }
 
-fn names_second(term: &Term) -> bool {
-    names_parameter(term, 3, 2)
+fn are_methods(methods: &[Method]) -> bool {
+    match methods {
+        [first, second] => {
+            first.access == Access::Public
+                && second.access == Access::Other
+                && first.signature.arguments.len() == 2
+                && match &first.signature.result {
+                    Some(term) => names_parameter(term, 3, 2),
+                    None => false,
+                }
+        }
+        _ => false,
+    }
 }
 
-fn is_own(body: &Implementer, place: u16) -> bool {
-    match body {
-        Implementer::Own(own) => *own == place,
-        Implementer::Named { .. } => false,
+fn are_overrides(overrides: &[Override]) -> bool {
+    match overrides {
+        [own, named] => {
+            matches!(own.body, Implementer::Own(0))
+                && own.signature.is_some()
+                && own.line == 3
+                && !matches!(named.body, Implementer::Own(_))
+                && named.signature.is_none()
+                && named.line == 4
+        }
+        _ => false,
     }
 }
