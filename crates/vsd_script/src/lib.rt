@@ -10,6 +10,8 @@ mod methods;
 mod script;
 mod statements;
 mod term;
+#[cfg(test)]
+mod tests;
 
 pub use error::ScriptError;
 pub use laws::scripts_are_decided;
