@@ -12,3 +12,4 @@ pub mod Refusals
 pub mod Rows
 pub mod Slots
 pub mod Tables
+pub mod Texts

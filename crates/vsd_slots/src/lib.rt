@@ -15,7 +15,9 @@ mod rows;
 mod signatures;
 mod slots;
 mod tables;
+mod texts;
 
 pub use entries::ClosedMethod;
 pub use laws::{implementation_law, interfaces_law};
 pub use slots::{SlotError, Slots, implement};
+pub use texts::method_text;
