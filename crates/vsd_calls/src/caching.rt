@@ -15,6 +15,7 @@ use vsd_words::Handle;
 
 /// Puts a pair with its target into the pair's bucket, where limbo has room and a row is free. The row
 /// that came out is retired.
+#[inline(never)]
 pub(crate) fn cache(table: &Shared, hand: &mut Hand, token: u16, h: Handle, target: u32)
     requires seat { Belongs table.now hand.old.seated }
     requires handle { HandleInRange h }

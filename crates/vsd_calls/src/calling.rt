@@ -30,6 +30,7 @@ use vsd_words::{CellWord, Handle};
 
 /// Answers a call of the site on the handle. Where it is answered, the caller has the evidence for its
 /// target, which is the world's answer for every type that the caller knows the handle to name.
+#[inline]
 pub fn call<R: Resolver>(
     table: &Shared,
     resolver: &R,
@@ -73,6 +74,7 @@ pub fn call<R: Resolver>(
 }
 
 /// Answers by the cell that was loaded, or by the bucket, or by a walk.
+#[inline]
 fn answer<R: Resolver>(
     table: &Shared,
     resolver: &R,
@@ -111,6 +113,7 @@ fn answer<R: Resolver>(
 }
 
 /// Answers by the bucket, or by a walk. `expected` is the other handle of the row that the cell named.
+#[inline]
 fn resolve<R: Resolver>(
     table: &Shared,
     resolver: &R,

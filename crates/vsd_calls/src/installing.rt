@@ -17,6 +17,7 @@ use vsd_words::{CellWord, Handle};
 
 /// Where the site's cell was loaded as Lookup and a row is free, fills the row with the pair and tries to
 /// install it in the cell. The row is given up where the exchange was lost.
+#[inline(always)]
 pub(crate) fn install(
     table: &Shared,
     hand: &mut Hand,
@@ -45,6 +46,7 @@ pub(crate) fn install(
 }
 
 /// Whether a cell is at Lookup.
+#[inline]
 fn is_lookup(cell: CellWord) -> bool
     ensures { IsTrue result ↔ cell ≡ Lookup }
 {
@@ -52,6 +54,7 @@ fn is_lookup(cell: CellWord) -> bool
 }
 
 /// Fills the row and tries to install it.
+#[inline(never)]
 fn install_row(
     table: &Shared,
     hand: &mut Hand,

@@ -15,6 +15,7 @@ use vsd_table::Shared;
 
 /// Counts a miss of the token. Where the new count is at least the limit and limbo has room, tries one
 /// exchange of the site's cell from Dispatch of the row to Resolve, and retires the row where it was won.
+#[inline(never)]
 pub(crate) fn patch(table: &Shared, hand: &mut Hand, site: u16, token: u16, row: u16)
     requires seat { Belongs table.now hand.old.seated }
     requires site { site < (key_of table.now).sizes.sites }

@@ -27,6 +27,7 @@ pub(crate) enum CellLook {
 
 /// On Dispatch loads the row's handle, and where it is the call's the row's target, of which the caller
 /// then has evidence. Where it is another, counts the miss and may patch the cell.
+#[inline]
 pub(crate) fn stub(
     table: &Shared,
     hand: &mut Hand,
@@ -53,6 +54,7 @@ pub(crate) fn stub(
 }
 
 /// The look at the row that the cell dispatches through.
+#[inline]
 fn stub_row(table: &Shared, hand: &mut Hand, site: u16, token: u16, h: Handle, row: u16) -> CellLook
     requires seat { Belongs table.now hand.old.seated }
     requires site { site < (key_of table.now).sizes.sites }
@@ -74,6 +76,7 @@ fn stub_row(table: &Shared, hand: &mut Hand, site: u16, token: u16, h: Handle, r
 }
 
 /// Whether two handles are one.
+#[inline]
 fn is_handle(g: Handle, h: Handle) -> bool
     ensures { result ≡ same_handle g h }
 {

@@ -21,6 +21,7 @@ use vsd_words::{CellWord, Handle};
 /// Loads the handle's word. Where it is loaded, asks the tables for the target of its type, puts the pair
 /// into its bucket, and installs it in a cell that was at Lookup. `Unloaded` comes exactly where the word
 /// has another generation or is not live.
+#[inline(always)]
 pub(crate) fn walk<R: Resolver>(
     table: &Shared,
     resolver: &R,

@@ -67,5 +67,5 @@ fn unpacked(word: u64) -> Handle
     requires { (h : Handle) × IsHandlePacking h word }
     ensures { IsHandlePacking result word }
 {
-    Handle::unpack(word).unwrap()
+    Handle::of_packing(word)
 }

@@ -203,17 +203,19 @@ impl Seated {
 }
 
 /// The handle that a word packs.
+#[inline]
 fn handle_of(word: u64) -> Handle
     requires { (h : Handle) × IsHandlePacking h word }
     ensures { IsHandlePacking result word }
 {
-    Handle::unpack(word).unwrap()
+    Handle::of_packing(word)
 }
 
 /// The cast word that a word packs.
+#[inline]
 fn cast_word_of(word: u64) -> CastWord
     requires { (w : CastWord) × IsCastPacking w word }
     ensures { IsCastPacking result word }
 {
-    CastWord::unpack(word).unwrap()
+    CastWord::of_packing(word)
 }

@@ -98,5 +98,5 @@ fn unpacked(word: u64) -> CellWord
     requires { (w : CellWord) × IsCellPacking w word }
     ensures { IsCellPacking result word }
 {
-    CellWord::unpack(word).unwrap()
+    CellWord::of_packing(word)
 }

@@ -82,5 +82,5 @@ fn unpacked(word: u64) -> HandleWord
     requires { (w : HandleWord) × IsHandleWordPacking w word }
     ensures { IsHandleWordPacking result word }
 {
-    HandleWord::unpack(word).unwrap()
+    HandleWord::of_packing(word)
 }

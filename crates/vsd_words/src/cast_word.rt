@@ -1,5 +1,6 @@
 //! Cast words.
 ghost use Rattle.std.specs.Prelude.{◌≡◌, ◌<◌, ◌^◌};
+ghost use Rattle.vsd_words.specs.declared.cast_word.CastWord.{CastWord};
 ghost use Rattle.vsd_words.specs.Packing.{Unpacks};
 ghost use Rattle.vsd_words.specs.CastWord.{CastWordInRange, packed_cast, IsCastPacking};
 
@@ -25,15 +26,26 @@ impl CastWord {
         2 * self.target.pack() + u64::from(self.yes)
     }
 
+    /// The cast word that packs to the word, of which one in range does.
+    #[inline]
+    pub fn of_packing(word: u64) -> Self
+        requires { (w : CastWord) × IsCastPacking w word }
+        ensures { IsCastPacking result word }
+    {
+        CastWord {
+            target: Handle::of_packing(word / 2),
+            yes: word % 2 == 1,
+        }
+    }
+
     /// The cast word that packs to the word, or `None` where none in range does.
     #[inline]
     pub fn unpack(word: u64) -> Option<Self>
         ensures { Unpacks IsCastPacking word result }
     {
-        let target = Handle::unpack(word / 2)?;
-        Some(CastWord {
-            target,
-            yes: word % 2 == 1,
-        })
+        if word >= 1 << 48 {
+            return None;
+        }
+        Some(CastWord::of_packing(word))
     }
 }

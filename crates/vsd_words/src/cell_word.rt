@@ -1,5 +1,6 @@
 //! The words of indirection cells.
 ghost use Rattle.std.specs.Prelude.{◌≡◌, ◌<◌};
+ghost use Rattle.vsd_words.specs.declared.cell_word.CellWord.{CellWord};
 ghost use Rattle.vsd_words.specs.Packing.{Unpacks};
 ghost use Rattle.vsd_words.specs.CellWord.{CellWordInRange, packed_cell, IsCellPacking};
 
@@ -27,6 +28,19 @@ impl CellWord {
             CellWord::Lookup => 0,
             CellWord::Resolve => 1,
             CellWord::Dispatch(row) => 2 + u64::from(row),
+        }
+    }
+
+    /// The cell that packs to the word, of which one in range does.
+    #[inline]
+    pub fn of_packing(word: u64) -> Self
+        requires { (cell : CellWord) × IsCellPacking cell word }
+        ensures { IsCellPacking result word }
+    {
+        match word {
+            0 => CellWord::Lookup,
+            1 => CellWord::Resolve,
+            _ => CellWord::Dispatch((word - 2) as u16),
         }
     }
 

@@ -1,5 +1,6 @@
 //! Handles.
 ghost use Rattle.std.specs.Prelude.{◌≡◌, ◌<◌, ◌^◌};
+ghost use Rattle.vsd_words.specs.declared.handle.Handle.{Handle};
 ghost use Rattle.vsd_words.specs.Packing.{Unpacks};
 ghost use Rattle.vsd_words.specs.Handle.{HandleInRange, packed_handle, IsHandlePacking};
 
@@ -23,6 +24,18 @@ impl Handle {
         u64::from(self.row) + 32768 * u64::from(self.generation)
     }
 
+    /// The handle that packs to the word, of which one in range does.
+    #[inline]
+    pub fn of_packing(word: u64) -> Self
+        requires { (h : Handle) × IsHandlePacking h word }
+        ensures { IsHandlePacking result word }
+    {
+        Handle {
+            row: (word % 32768) as u16,
+            generation: (word / 32768) as u32,
+        }
+    }
+
     /// The handle that packs to the word, or `None` where no handle in range does.
     #[inline]
     pub fn unpack(word: u64) -> Option<Self>
@@ -31,9 +44,6 @@ impl Handle {
         if word >= 1 << 47 {
             return None;
         }
-        Some(Handle {
-            row: (word % 32768) as u16,
-            generation: (word / 32768) as u32,
-        })
+        Some(Handle::of_packing(word))
     }
 }

@@ -1,5 +1,6 @@
 //! Handle words.
 ghost use Rattle.std.specs.Prelude.{◌≡◌, ◌<◌, ◌^◌};
+ghost use Rattle.vsd_words.specs.declared.handle_word.HandleWord.{HandleWord};
 ghost use Rattle.vsd_words.specs.Packing.{Unpacks};
 ghost use Rattle.vsd_words.specs.HandleWord.{HandleWordInRange, packed_handle_word, IsHandleWordPacking};
 
@@ -31,6 +32,20 @@ impl HandleWord {
             + 262144 * u64::from(self.generation)
     }
 
+    /// The handle word that packs to the word, of which one does.
+    #[inline]
+    pub fn of_packing(word: u64) -> Self
+        requires { (w : HandleWord) × IsHandleWordPacking w word }
+        ensures { IsHandleWordPacking result word }
+    {
+        HandleWord {
+            generation: (word / 262144) as u32,
+            number: (word / 4 % 65536) as u16,
+            immortal: word / 2 % 2 == 1,
+            live: word % 2 == 1,
+        }
+    }
+
     /// The handle word that packs to the word, or `None` where none does.
     #[inline]
     pub fn unpack(word: u64) -> Option<Self>
@@ -39,11 +54,6 @@ impl HandleWord {
         if word >= 1 << 50 {
             return None;
         }
-        Some(HandleWord {
-            generation: (word / 262144) as u32,
-            number: (word / 4 % 65536) as u16,
-            immortal: word / 2 % 2 == 1,
-            live: word % 2 == 1,
-        })
+        Some(HandleWord::of_packing(word))
     }
 }

@@ -8,7 +8,9 @@ pub returns-then-word : goal.returns-then-word
 returns-then-word c =
     unpacks_none IsHandlePacking c.args.word (λ h p. omega (arith, handle_packing-below c.args.word h p))
 
+pub of_packing-requires : goal.of_packing-requires
+of_packing-requires c = (_, handle_of_word c.args.word (omega arith))
+
 pub returns : goal.returns
 returns c =
-    unpacks_some IsHandlePacking c.args.word _ (handle_packing-one_to_one c.args.word)
-    (handle_of_word c.args.word (omega arith))
+    unpacks_some IsHandlePacking c.args.word _ (handle_packing-one_to_one c.args.word) c.of_packing.ensures

@@ -9,7 +9,9 @@ returns-then-word c =
     unpacks_none IsHandleWordPacking c.args.word
     (λ w p. omega (arith, handle_word_packing-below c.args.word w p))
 
+pub of_packing-requires : goal.of_packing-requires
+of_packing-requires c = (_, handle_word_of_word c.args.word (omega arith))
+
 pub returns : goal.returns
 returns c =
-    unpacks_some IsHandleWordPacking c.args.word _ (handle_word_packing-one_to_one c.args.word)
-    (handle_word_of_word c.args.word (omega arith))
+    unpacks_some IsHandleWordPacking c.args.word _ (handle_word_packing-one_to_one c.args.word) c.of_packing.ensures
