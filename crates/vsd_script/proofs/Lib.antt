@@ -1,4 +1,0 @@
--- Lemmas that several proofs of this crate share.
-pub mod Deciding
-pub mod Told
-pub mod Keeping
