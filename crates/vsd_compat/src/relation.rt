@@ -23,14 +23,12 @@ fn varies(closed: &Closed, matrix: &Matrix, sign: Sign, a: u16, b: u16) -> bool
     if a == b {
         return true;
     }
-    if !closed.is_reference(a) || !closed.is_reference(b) {
-        return false;
-    }
-    match sign {
+    let directed = match sign {
         Sign::Plus => matrix.get(a, b),
         Sign::Minus => matrix.get(b, a),
         Sign::Plain => false,
-    }
+    };
+    directed && closed.is_reference(a) && closed.is_reference(b)
 }
 
 /// Whether the arguments of two types of one interface differ only as the bits let them.

@@ -21,7 +21,7 @@ use vsd_terms::{Builtin, Term};
 use vsd_types::Closed;
 
 // How often all rows are gone over before rows are woken one by one.
-const SWEEPS: u8 = 3;
+const SWEEPS: u8 = 2;
 
 /// Which types of a closed list are compatible with which, a bit for each two.
 #[derive(Debug, Drop)]

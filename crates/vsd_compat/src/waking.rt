@@ -10,6 +10,7 @@ use crate::climbing::climb;
 use crate::matrix::Matrix;
 use crate::relation::relate;
 use std::alloc::{AllocError, Global};
+use vsd_ast::Sign;
 use vsd_types::Closed;
 
 // How many rows are woken before every row is looked at again.
@@ -95,11 +96,65 @@ fn vary(
     if t >= matrix.count {
         return Ok(());
     }
+    vary_from(closed, generics, matrix, agenda, t)?;
+    vary_to(closed, generics, matrix, agenda, t)
+}
+
+// Asks anew what `t` varies to. The row of an argument lets it where the parameter is covariant.
+fn vary_from(
+    closed: &Closed,
+    generics: &[Option<u16>],
+    matrix: &mut Matrix,
+    agenda: &mut Agenda,
+    t: u16,
+) -> Result<(), AllocError>
+    requires count { matrix.old.count ≡ length closed.now.types }
+    requires distinct { IsDistinct closed.now.types }
+    requires closed { IsClosedUnder closed.now.decls.list closed.now.types }
+    requires generics { AreGenerics closed.now generics.now }
+    requires within { t < matrix.old.count }
+    ensures { Improves closed.now matrix.old matrix.new }
+{
+    if !has_sign(closed.signs(t), Sign::Plus) {
+        return Ok(());
+    }
     for u in 0..matrix.count {
         ask(closed, generics, matrix, agenda, t, u)?;
+    }
+    Ok(())
+}
+
+// Asks anew what varies to `t`. The row of an argument lets it where the parameter is contravariant.
+fn vary_to(
+    closed: &Closed,
+    generics: &[Option<u16>],
+    matrix: &mut Matrix,
+    agenda: &mut Agenda,
+    t: u16,
+) -> Result<(), AllocError>
+    requires count { matrix.old.count ≡ length closed.now.types }
+    requires distinct { IsDistinct closed.now.types }
+    requires closed { IsClosedUnder closed.now.decls.list closed.now.types }
+    requires generics { AreGenerics closed.now generics.now }
+    requires within { t < matrix.old.count }
+    ensures { Improves closed.now matrix.old matrix.new }
+{
+    if !has_sign(closed.signs(t), Sign::Minus) {
+        return Ok(());
+    }
+    for u in 0..matrix.count {
         ask(closed, generics, matrix, agenda, u, t)?;
     }
     Ok(())
+}
+
+fn has_sign(signs: &[Sign], sign: Sign) -> bool {
+    for s in signs {
+        if *s == sign {
+            return true;
+        }
+    }
+    false
 }
 
 fn ask(
