@@ -204,12 +204,7 @@ fn types_above(alloc: Global, checked: &Checked, decl: &Decl) -> Result<Terms, A
 }
 
 // Adds a type that has no parameter.
-fn add_root(
-    alloc: Global,
-    checked: &Checked,
-    roots: &mut Terms,
-    t: &Term,
-) -> Result<(), AllocError>
+fn add_root(alloc: Global, checked: &Checked, roots: &mut Terms, t: &Term) -> Result<(), AllocError>
     requires lawful { IsTrue (is_lawful (decls_of checked.now).list t.now) }
     requires roots { All (IsClosedType (decls_of checked.now).list) roots.old }
     ensures { OnOk result (All (IsClosedType (decls_of checked.now).list) roots.new) }
