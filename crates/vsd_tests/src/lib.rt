@@ -3,5 +3,3 @@
 
 #[cfg(test)]
 mod checking;
-#[cfg(test)]
-mod closing;
