@@ -11,6 +11,7 @@
 
 mod abstracts;
 mod finals;
+mod laws;
 mod links;
 mod overriding;
 mod place;
@@ -20,6 +21,7 @@ mod variance;
 
 pub use abstracts::{abstract_bodies, abstract_in_concrete};
 pub use finals::overrides_final;
+pub use laws::{positions_law, slots_law};
 pub use overriding::overridden;
 pub use place::Place;
 pub use rooting::roots;
