@@ -1,0 +1,4 @@
+-- Lemmas that several proofs of this crate share.
+pub mod Deciding
+pub mod Told
+pub mod Keeping

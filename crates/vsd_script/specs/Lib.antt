@@ -1,0 +1,6 @@
+-- What contracts of this crate cite.
+pub mod Methods
+pub mod Productions
+pub mod Errors
+pub mod Answers
+pub mod Limits
