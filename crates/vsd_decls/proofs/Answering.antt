@@ -34,7 +34,7 @@ module _ (text : List ℕ) (tokens : List Token) where
   -- a reading ends at a token of the text, or at their end
   pub rest_inside : (list : List Decl) (j : Input) → run (List Decl) declarations (beginning text tokens) ≡ Ok (list, j) → j.at ≤ length tokens
   rest_inside list j e =
-      let w = (goes_forward (List Decl) declarations (beginning text tokens) list j e).1.0 in
+      let w = (goes_forward (List Decl) declarations (beginning text tokens) list j e).1 in
       let n = length-map tokens (seen_of text) in
       omega (arith, w, n)
 
