@@ -40,11 +40,11 @@ use Rattle.vsd_lanes.proofs.Making.{written_of-Once, written_of-Repeat, makes_ap
 
 -- ---- what the parts of an operation say
 
-shows_none : (c : Option Cause) (i : Input) (u : Unit {0}) (j : Input) → Derives (Unit {0}) (names.shows c) i u j → c ≡ None
+pub shows_none : (c : Option Cause) (i : Input) (u : Unit {0}) (j : Input) → Derives (Unit {0}) (names.shows c) i u j → c ≡ None
 shows_none None i u j d = refl
 shows_none (Some cause) i u j d = absurd d
 
-checked_ok : (A : Type 0) (r : Result A Cause) (i : Input) (x : A) (j : Input) → Derives A (checked A r) i x j → r ≡ Ok x
+pub checked_ok : (A : Type 0) (r : Result A Cause) (i : Input) (x : A) (j : Input) → Derives A (checked A r) i x j → r ≡ Ok x
 checked_ok A (Ok a) i x j d = ap Ok d.0
 checked_ok A (Err cause) i x j d = absurd d
 
@@ -65,7 +65,7 @@ fresh_allowed e s i f j d =
     let none = no_host (host_number e.hosts name) _ (shows_none (names.fresh_cause e s name) d.3.1 d.3.3.0 d.3.3.1 d.3.3.2) in
     (subst (λ (g : Fresh). fresh s.running.live g.variable ≡ None) made none, sym (ap (λ (g : Fresh). g.lane.running) made))
 
-if_none_ok : {A : Type 0} (a b : A) (c : Option Cause) → names.if_none a c ≡ Ok b → (c ≡ None) × (a ≡ b)
+pub if_none_ok : {A : Type 0} (a b : A) (c : Option Cause) → names.if_none a c ≡ Ok b → (c ≡ None) × (a ≡ b)
 if_none_ok a b None e = (refl, cc)
 if_none_ok a b (Some cause) e = absurd cc
 
@@ -162,7 +162,7 @@ cast_means e s i p j d =
 
 -- ---- many
 
-joined-push : (xss : List (List Written)) (ys : List Written) → joined (xss ++ ys ∷ []) ≡ joined xss ++ ys
+pub joined-push : (xss : List (List Written)) (ys : List Written) → joined (xss ++ ys ∷ []) ≡ joined xss ++ ys
 unfolding joined
 joined-push [] ys = append-nil ys
 joined-push (xs ∷ xss) ys = ap (λ l. xs ++ l) (joined-push xss ys) ∙ sym (append_assoc xs (joined xss) ys)

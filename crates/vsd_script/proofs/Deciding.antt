@@ -1,5 +1,5 @@
 -- Scripts are read in one way, whatever follows them.
-use Rattle.std.proofs.Common.{◌≡◌, ℕ, Bool, true, false, List, Option, Some, None, Result, Ok, Err, refl}
+use Rattle.std.proofs.Common.{ℕ, Bool, true, false, List, Option, Some, None, refl}
 use Rattle.vsd_terms.specs.declared.term.Term.{Term}
 use Rattle.vsd_ast.specs.declared.declarations.Decl.{Decl}
 use Rattle.vsd_ast.specs.declared.declarations.Decls.{Decls}
@@ -9,7 +9,6 @@ use Rattle.vsd_ast.specs.declared.scripts.Site.{Site}
 use Rattle.vsd_grammar.specs.declared.token_class.TokenClass.{TokenClass}
 use Rattle.vsd_grammar.specs.declared.token_class.TokenClass.TheVariants as class
 use Rattle.vsd_grammar.specs.declared.cause.Listed.{Listed}
-use Rattle.vsd_grammar.specs.Input.{Lookahead}
 use Rattle.vsd_grammar.specs.Grammar.{Decides}
 use Rattle.vsd_grammar.proofs.Deciding.{anything, decides_expect, decides_eat, decides_spelled_name, decides_spelled_number, decides_then_pass, decides_checked}
 use Rattle.vsd_type_syntax.proofs.Deciding.{decides_written, decides_written_open}

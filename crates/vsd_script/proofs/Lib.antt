@@ -2,3 +2,5 @@
 pub mod Deciding
 pub mod Told
 pub mod Keeping
+pub mod Terms
+pub mod Widening

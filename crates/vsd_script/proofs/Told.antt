@@ -1,5 +1,5 @@
 -- What the reading of a production tells of the answer.
-use Rattle.std.proofs.Common.{◌≡◌, ℕ, List, Result, Ok, Err, refl}
+use Rattle.std.proofs.Common.{◌≡◌, List, Ok, Err, refl}
 use Rattle.vsd_text.specs.declared.tokens.Token.{Token}
 use Rattle.vsd_grammar.specs.declared.syntax_error.Stop.{Stop}
 use Rattle.vsd_grammar.specs.declared.syntax_error.Stop.TheVariants as stop

@@ -1,5 +1,5 @@
 -- What a reader of scripts says of its answer.
-use Rattle.std.specs.Prelude.{◌≡◌, ℕ, Bool, true, List, Result, Ok, Err, IfOk}
+use Rattle.std.specs.Prelude.{◌≡◌, Bool, true, List, Result, Ok, Err, IfOk}
 use Rattle.vsd_text.specs.declared.tokens.Token.{Token}
 use Rattle.vsd_grammar.specs.declared.token_class.TokenClass.{TokenClass}
 use Rattle.vsd_grammar.specs.declared.syntax_error.Stop.{Stop}

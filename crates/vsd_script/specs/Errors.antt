@@ -1,9 +1,8 @@
 -- Which refusal each cause is in a script.
-use Rattle.std.specs.Prelude.{◌≡◌, ℕ, List, Result, Ok, Err}
+use Rattle.std.specs.Prelude.{ℕ, List}
 use Rattle.vsd_text.specs.declared.tokens.Token.{Token}
 use Rattle.vsd_grammar.specs.declared.cause.Cause.{Cause}
 use Rattle.vsd_grammar.specs.declared.cause.Cause.TheVariants as cause
-use Rattle.vsd_grammar.specs.declared.syntax_error.SyntaxError.{SyntaxError}
 use Rattle.vsd_grammar.specs.declared.syntax_error.Stop.{Stop}
 use Rattle.vsd_grammar.specs.declared.syntax_error.Stop.TheVariants as stop
 use Rattle.vsd_grammar.specs.Place.{line_of}

@@ -3,4 +3,5 @@ pub mod Methods
 pub mod Productions
 pub mod Errors
 pub mod Answers
-pub mod Limits
+pub mod Formed
+pub mod Texts

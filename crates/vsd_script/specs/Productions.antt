@@ -20,7 +20,7 @@ use Rattle.vsd_grammar.specs.Productions.{expect, eat, spelled_name, spelled_num
 use Rattle.vsd_type_syntax.specs.Types.{written, written_open}
 use Rattle.vsd_lanes.specs.declared.repeats.Body.{Body}
 use Rattle.vsd_lanes.specs.Types.{rules_of}
-use Rattle.vsd_lanes.specs.Setting.{Setting, setting, site_in, host_in}
+use Rattle.vsd_lanes.specs.Setting.{setting, site_in, host_in}
 use Rattle.vsd_lanes.specs.Names.{shows}
 use Rattle.vsd_lanes.specs.Productions.{assigned, equals, semicolon, lane}
 use Rattle.vsd_script.specs.declared.term.ReadTerm.{ReadTerm}

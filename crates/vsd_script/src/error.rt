@@ -2,6 +2,7 @@
 ghost use Rattle.std.specs.Prelude.{◌≡◌};
 ghost use Rattle.vsd_script.specs.Errors as spec;
 
+use crate::texts::listed_text;
 use thiserror::Error;
 use vsd_grammar::{Cause, Listed, Stop, line_of};
 use vsd_text::Token;
@@ -24,8 +25,8 @@ pub enum ScriptError {
     /// The lanes would have a 200,001st operation.
     #[error("refused {line} 24 too many operations")]
     TooManyOps { line: u32 },
-    /// One site, host or lane more than there may be.
-    #[error("refused {line} 25 too many")]
+    /// One site, host or lane more than there may be; its text is that of [`listed_text`](crate::listed_text).
+    #[error("refused {line} 25 too many {}", listed_text(*.what))]
     TooMany { line: u32, what: Listed },
     /// The object of a call has a type that isn't a class, or is abstract.
     #[error("refused {line} 26 not concrete")]

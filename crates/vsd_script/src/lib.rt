@@ -12,8 +12,10 @@ mod statements;
 mod term;
 #[cfg(test)]
 mod tests;
+mod texts;
 
 pub use error::ScriptError;
 pub use laws::scripts_are_decided;
 pub use script::{Word, read_script};
 pub use term::{ReadTerm, read_term};
+pub use texts::listed_text;

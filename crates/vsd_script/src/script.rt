@@ -2,12 +2,14 @@
 ghost use Rattle.std.specs.Prelude.{◌≡◌, ◌≤◌, [], length, All, IfOk};
 ghost use Rattle.vsd_text.specs.Tokens.{LiesWithin};
 ghost use Rattle.vsd_ast.specs.WellFormed.{AreWellFormed};
+ghost use Rattle.vsd_ast.specs.Scripts.{IsWellFormedScript};
 ghost use Rattle.vsd_grammar.specs.Place.{start_of, most_tokens};
 ghost use Rattle.vsd_grammar.specs.Input.{Input, is_end};
 ghost use Rattle.vsd_grammar.specs.Grammar.{run};
 ghost use Rattle.vsd_grammar.specs.Productions.{Reads};
+ghost use Rattle.vsd_lanes.specs.Types.{IsRoot};
 ghost use Rattle.vsd_script.specs.Productions as spec;
-ghost use Rattle.vsd_script.specs.Limits.{KeepsLimits};
+ghost use Rattle.vsd_script.specs.Formed.{NamesMethod};
 ghost use Rattle.vsd_script.specs.Answers.{IsAnswerOf, IsFound, IsOnly, IsDead};
 
 use crate::error::{ScriptError, told};
@@ -127,8 +129,12 @@ pub fn read_script(
     ensures found { IsFound (spec.script decls.now) (start_of text.now tokens.now decls.now.rest []) result }
     ensures only { IsOnly (spec.script decls.now) (start_of text.now tokens.now decls.now.rest []) result }
 
-    // It keeps the limits, and its operations name what is live.
-    ensures limits { IfOk result KeepsLimits }
+    // It keeps the limits, and its operations name what is there and lives.
+    ensures formed { IfOk result IsWellFormedScript }
+
+    // Its terms are closed and name what is declared, and each site names a method of its interface.
+    ensures roots { IfOk result (λ s. All (IsRoot decls.now.list) s.roots) }
+    ensures slots { IfOk result (λ s. All (NamesMethod decls.now.list s.roots) s.sites) }
 
     // After a refusal no text goes on that is the same up to and with the token that decided it.
     ensures dead { IsDead tokens.now (spec.script decls.now) (start_of text.now tokens.now decls.now.rest []) result }

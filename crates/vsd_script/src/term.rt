@@ -1,11 +1,12 @@
 //! One term of a script.
-ghost use Rattle.std.specs.Prelude.{◌≡◌, ◌≤◌, [], length, All};
+ghost use Rattle.std.specs.Prelude.{◌≡◌, ◌≤◌, [], length, All, IfOk};
 ghost use Rattle.vsd_text.specs.Tokens.{LiesWithin};
 ghost use Rattle.vsd_ast.specs.WellFormed.{AreWellFormed};
 ghost use Rattle.vsd_grammar.specs.Place.{start_of, most_tokens};
 ghost use Rattle.vsd_grammar.specs.Input.{Input};
 ghost use Rattle.vsd_grammar.specs.Grammar.{run};
 ghost use Rattle.vsd_grammar.specs.Productions.{Reads};
+ghost use Rattle.vsd_lanes.specs.Types.{IsRoot};
 ghost use Rattle.vsd_script.specs.Productions.{term_at};
 ghost use Rattle.vsd_script.specs.Answers.{IsAnswerOf, IsFound, IsOnly, IsDead};
 
@@ -85,6 +86,10 @@ pub fn read_term(
     // It is what the productions allow, and nothing else is allowed.
     ensures found { IsFound (term_at decls.now) (start_of text.now tokens.now at []) result }
     ensures only { IsOnly (term_at decls.now) (start_of text.now tokens.now at []) result }
+
+    // It is closed and names what is declared, and the token after it is one of the text's, or their end.
+    ensures root { IfOk result (λ read. IsRoot decls.now.list read.term) }
+    ensures after { IfOk result (λ read. (at ≤ read.next) × (read.next ≤ length tokens.now)) }
 
     // After a refusal no text goes on that is the same up to and with the token that decided it.
     ensures dead { IsDead tokens.now (term_at decls.now) (start_of text.now tokens.now at []) result }

@@ -9,7 +9,6 @@ use sqlite_items::Items;
 use std::alloc::Global;
 use std::test::Fail;
 use vsd_ast::{Decls, Op, Script, Var};
-use vsd_grammar::Listed;
 use vsd_terms::Names;
 use vsd_text::lex;
 
@@ -31,111 +30,69 @@ fn read(alloc: Global, text: &[u8]) -> Result<Script, ScriptError> {
     read_script(alloc, text, tokens.as_slice(), &nothing_declared(alloc))
 }
 
-fn refusal(alloc: Global, text: &[u8]) -> Option<ScriptError> {
-    match read(alloc, text) {
-        Ok(_) => None,
-        Err(error) => Some(error),
+/// Rows of an answer and its script. Each `^` stands for a line feed; the line tells which token shows the refusal.
+static ROWS: &[u8] = b"refused 1 20 unexpected|cast
+refused 3 20 unexpected|lane {^}^}
+refused 2 20 unexpected|lane { repeat 2 {^} }
+refused 2 20 unexpected|lane { repeat^0 { } }
+refused 2 20 unexpected|lane { repeat^200001 { } }
+refused 2 20 unexpected|lane { repeat^0000002 { } }
+refused 2 20 unexpected|host a = int32^[]
+refused 2 20 unexpected|host a =^System.Enum;
+refused 1 20 unexpected|host a = object
+refused 2 20 unexpected|host a = ^!0;
+refused 2 21 unknown name|host a = [x]^y;
+refused 2 21 unknown name|host a =^y;
+refused 2 21 unknown name|lane { unload^x; }
+refused 2 21 unknown name|host a = object; lane { unload^a; }
+refused 2 21 unknown name|lane { load a = object; cast a^b; }
+refused 2 21 unknown name|lane { load a = object; } lane { cast^a a; }
+refused 2 21 unknown name|lane { load a = object; unload a; cast^a a; }
+refused 2 21 unknown name|lane { call^s a; }
+refused 3 21 unknown name|lane { load a = object; repeat 2 {^unload^a; } }
+refused 2 22 twice|host a = string; host^a = object;
+refused 2 22 twice|host a = string; lane { load^a = object; }
+refused 2 22 twice|lane { load a = object; load^a = object; }
+refused 3 22 twice|lane { repeat 2 {^load^a =^object; } }
+refused 2 24 too many operations|lane { load x = object; repeat 200000 {^cast x x; } }
+refused 2 24 too many operations|lane { load x = object; repeat 199999 { cast x x; }^cast^nobody x; }
+refused 2 21 unknown name|lane { load x = object; } lane { repeat 100000 { repeat 2 { cast^a b; } } }
+refused 2 29 too deep|lane { repeat 1 { repeat 1 { repeat 1 { repeat 1 { repeat 1 { repeat 1 { repeat 1 { repeat 1 {^repeat
+refused 2 20 unexpected|host a =^System.Object<int32>;
+refused 2 27 unknown method|site s = object::^M;
+refused 1 20 unexpected|site s = object:^M;
+ok|
+";
+
+/// What is answered to a script: `ok`, or its refusal.
+fn answer(alloc: Global, script: &[u8]) -> Result<Vec<u8>, Fail> {
+    match read(alloc, script) {
+        Ok(_) => Ok(Vec::from_slice(alloc, b"ok")?),
+        Err(error) => Ok(format!(in alloc; "{error}")?.into_bytes()),
     }
 }
 
-/// Texts with their refusals; the line tells which token shows it.
-static REFUSED: [(&[u8], ScriptError); 30] = [
-    (b"cast", ScriptError::Unexpected { line: 1 }),
-    (b"lane {\n}\n}", ScriptError::Unexpected { line: 3 }),
-    (
-        b"lane { repeat 2 {\n} }",
-        ScriptError::Unexpected { line: 2 },
-    ),
-    (
-        b"lane { repeat\n0 { } }",
-        ScriptError::Unexpected { line: 2 },
-    ),
-    (
-        b"lane { repeat\n200001 { } }",
-        ScriptError::Unexpected { line: 2 },
-    ),
-    (
-        b"lane { repeat\n0000002 { } }",
-        ScriptError::Unexpected { line: 2 },
-    ),
-    (b"host a = int32\n[]", ScriptError::Unexpected { line: 2 }),
-    (
-        b"host a =\nSystem.Enum;",
-        ScriptError::Unexpected { line: 2 },
-    ),
-    (b"host a = object", ScriptError::Unexpected { line: 1 }),
-    (b"host a = \n!0;", ScriptError::Unexpected { line: 2 }),
-    (b"host a = [x]\ny;", ScriptError::UnknownName { line: 2 }),
-    (b"host a =\ny;", ScriptError::UnknownName { line: 2 }),
-    (b"lane { unload\nx; }", ScriptError::UnknownName { line: 2 }),
-    (
-        b"host a = object; lane { unload\na; }",
-        ScriptError::UnknownName { line: 2 },
-    ),
-    (
-        b"lane { load a = object; cast a\nb; }",
-        ScriptError::UnknownName { line: 2 },
-    ),
-    (
-        b"lane { load a = object; } lane { cast\na a; }",
-        ScriptError::UnknownName { line: 2 },
-    ),
-    (
-        b"lane { load a = object; unload a; cast\na a; }",
-        ScriptError::UnknownName { line: 2 },
-    ),
-    (b"lane { call\ns a; }", ScriptError::UnknownName { line: 2 }),
-    (
-        b"lane { load a = object; repeat 2 {\nunload\na; } }",
-        ScriptError::UnknownName { line: 3 },
-    ),
-    (
-        b"host a = string; host\na = object;",
-        ScriptError::Twice { line: 2 },
-    ),
-    (
-        b"host a = string; lane { load\na = object; }",
-        ScriptError::Twice { line: 2 },
-    ),
-    (
-        b"lane { load a = object; load\na = object; }",
-        ScriptError::Twice { line: 2 },
-    ),
-    (
-        b"lane { repeat 2 {\nload\na =\nobject; } }",
-        ScriptError::Twice { line: 3 },
-    ),
-    (
-        b"lane { load x = object; repeat 200000 {\ncast x x; } }",
-        ScriptError::TooManyOps { line: 2 },
-    ),
-    (
-        b"lane { load x = object; repeat 199999 { cast x x; }\ncast\nnobody x; }",
-        ScriptError::TooManyOps { line: 2 },
-    ),
-    (
-        b"lane { load x = object; } lane { repeat 100000 { repeat 2 { cast\na b; } } }",
-        ScriptError::UnknownName { line: 2 },
-    ),
-    (
-        b"lane { repeat 1 { repeat 1 { repeat 1 { repeat 1 { repeat 1 { repeat 1 { repeat 1 { repeat 1 {\nrepeat",
-        ScriptError::TooDeep { line: 2 },
-    ),
-    (
-        b"host a =\nSystem.Object<int32>;",
-        ScriptError::Unexpected { line: 2 },
-    ),
-    (
-        b"site s = object::\nM;",
-        ScriptError::UnknownMethod { line: 2 },
-    ),
-    (b"site s = object:\nM;", ScriptError::Unexpected { line: 1 }),
-];
-
 #[test]
 fn refuses_at_the_token_that_shows_it(rt: HostRuntime) -> Result<(), Fail> {
-    for row in REFUSED.iter() {
-        assert!(rt; refusal(rt.alloc(), row.0) == Some(row.1));
+    let mut expected = Vec::new(rt.alloc());
+    let mut script = Vec::new(rt.alloc());
+    let mut past = false;
+    for byte in ROWS {
+        if *byte == b'\n' {
+            let found = answer(rt.alloc(), script.as_slice())?;
+            assert!(rt; found.as_slice() == expected.as_slice());
+            expected.clear();
+            script.clear();
+            past = false;
+        } else if *byte == b'|' {
+            past = true;
+        } else if !past {
+            expected.push(*byte)?;
+        } else if *byte == b'^' {
+            script.push(b'\n')?;
+        } else {
+            script.push(*byte)?;
+        }
     }
     Ok(())
 }
@@ -156,27 +113,23 @@ fn repeated(alloc: Global, count: u32, before: &[u8], after: &[u8]) -> Result<Ve
 #[test]
 fn counts_hosts_lanes_and_live_variables(rt: HostRuntime) -> Result<(), Fail> {
     let hosts = repeated(rt.alloc(), 257, b"host h", b" = object;\n")?;
-    let what = Listed::Hosts;
-    assert!(rt;
-        refusal(rt.alloc(), hosts.as_slice()) == Some(ScriptError::TooMany { line: 257, what })
-    );
+    let found = answer(rt.alloc(), hosts.as_slice())?;
+    assert!(rt; found.as_slice() == b"refused 257 25 too many hosts".as_slice());
     let mut lanes = Vec::new(rt.alloc());
     for _lane in 0..64 {
         lanes.extend_from_slice(b"lane { }\n")?;
     }
-    assert!(rt; refusal(rt.alloc(), lanes.as_slice()).is_none());
+    let found = answer(rt.alloc(), lanes.as_slice())?;
+    assert!(rt; found.as_slice() == b"ok".as_slice());
     lanes.extend_from_slice(b"lane")?;
-    let what = Listed::Lanes;
-    assert!(rt;
-        refusal(rt.alloc(), lanes.as_slice()) == Some(ScriptError::TooMany { line: 65, what })
-    );
+    let found = answer(rt.alloc(), lanes.as_slice())?;
+    assert!(rt; found.as_slice() == b"refused 65 25 too many lanes".as_slice());
     let mut live = Vec::new(rt.alloc());
     live.extend_from_slice(b"lane {\n")?;
     let loads = repeated(rt.alloc(), 33, b"load x", b" = object;\n")?;
     live.extend_from_slice(loads.as_slice())?;
-    assert!(rt;
-        refusal(rt.alloc(), live.as_slice()) == Some(ScriptError::TooManyLive { line: 34 })
-    );
+    let found = answer(rt.alloc(), live.as_slice())?;
+    assert!(rt; found.as_slice() == b"refused 34 23 too many live".as_slice());
     Ok(())
 }
 

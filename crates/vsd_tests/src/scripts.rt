@@ -51,10 +51,13 @@ ok|lane { $ load x32 = object; }
 23 5|lane { $ repeat 2 { load^b = C; unload b; load^d = C; } }
 ok|lane { load x = object; repeat 199999 { cast x x; } }
 24 4|lane { load x = object; repeat 200000 { cast x x; } }
+24 5|lane { load x = object; repeat 199999 { cast x x; } repeat 2 {^cast x x; } }
+24 5|lane { load x = object; repeat 200000 { repeat 200000 {^cast x x; } } }
 24 6|site s = I::M; lane { load a = C; repeat 2 { repeat 99998 { call s a; }^call s a;^call s a; } }
 ok 0|site s = I::M; host c = C; host b = B<object>; lane { call s c; call s b; }
 26 4|site s = I::M; host i = I; lane { call s i; }
 26 5|site s = I::M; host a = A; lane { call s^a; }
+26 5|site s = I::M; host a = A; lane { repeat 2 { call s^a; } }
 26 5|site s = I::M; host o = object; lane { call s^o; }
 26 5|site s = I::M; host g = G<C>; lane { call s^g; }
 26 5|site s = I::M; lane { load a = C; repeat 2 { call s^a; unload a; load^a = I; } }

@@ -2,6 +2,7 @@ use Rattle.std.proofs.Common.{◌∙◌}
 use Rattle.vsd_script.specs.Productions.{term_at}
 use Rattle.vsd_script.specs.Answers.{anything}
 use Rattle.vsd_script.proofs.Deciding.{decides_term_at}
+use Rattle.vsd_script.proofs.Terms.{term_root, term_after}
 use Rattle.vsd_script.proofs.Told.{stops_with, what_is_found, nothing_else, nothing_allowed, final}
 use Rattle.vsd_script.proofs.term.read_term.Goals as goal
 
@@ -24,3 +25,13 @@ returns-in-Err-clause-only c = λ y k d.
 
 pub returns-in-Err-clause-dead : goal.returns-in-Err-clause-dead
 returns-in-Err-clause-dead c = let w = c.in-Err.ensures in (c.in-Err.stop, c.told.ensures, final (term_at c.args.decls.now) (decides_term_at c.args.decls.now anything) _ w.0 c.in-Err.stop w.1)
+
+pub returns-in-Ok-clause-root : goal.returns-in-Ok-clause-root
+returns-in-Ok-clause-root c =
+    let w = c.in-Ok.ensures in
+    term_root c.args.decls.now _ c.in-Ok.term w.0 (what_is_found (term_at c.args.decls.now) (decides_term_at c.args.decls.now anything) _ w.0 c.in-Ok.term w.1)
+
+pub returns-in-Ok-clause-after : goal.returns-in-Ok-clause-after
+returns-in-Ok-clause-after c =
+    let w = c.in-Ok.ensures in
+    term_after c.args.decls.now c.args.text.now c.args.tokens.now c.args.at c.requires.inside c.in-Ok.term w.0 w.1
