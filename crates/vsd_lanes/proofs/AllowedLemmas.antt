@@ -1,20 +1,19 @@
 -- Operations that could be made name variables that are live, and there was room for them.
-use Rattle.std.proofs.Common.{◌≡◌, ℕ, suc, ◌+◌, ◌<◌, ◌≤◌, Bool, true, false, cond, ltb, eqb, List, [], ◌∷◌, ◌++◌, map, length, All, Contains, Option, Some, None, Result, Ok, Err, refl, ap, sym, subst, ◌∙◌, arith}
+use Rattle.std.proofs.Common.{◌≡◌, ℕ, ◌<◌, ◌≤◌, Bool, true, false, cond, ltb, eqb, List, [], ◌∷◌, map, length, All, Contains, Option, Some, None, Result, Ok, Err, refl, ap, sym, subst, ◌∙◌, arith}
 use Rattle.std.proofs.lemmas.Bool.{ltb-true, eqb-true, eqb-false}
 use Rattle.std.proofs.lemmas.List.{map-append, length-map, length_push}
 use Rattle.std.proofs.lemmas.List.Elements.{All-nil, All-cons, All-contains, Contains-push, Contains-append_left, Contains-append_right}
 use Rattle.vsd_ast.specs.Scripts.{without as without_one, live_after as lives_after, IsThere, MayBeMade, MayFollow}
-use Rattle.vsd_ast.specs.declared.scripts.Op.{Op}
 use Rattle.vsd_ast.specs.declared.scripts.Var.{Var}
 use Rattle.vsd_ast.specs.declared.scripts.Var.TheVariants as var
 use Rattle.vsd_grammar.specs.declared.cause.Cause.{Cause}
-use Rattle.vsd_grammar.specs.declared.cause.Cause.TheVariants.{UnknownName, Twice, TooManyLive, NotConcrete, TooManyOperations}
+use Rattle.vsd_grammar.specs.declared.cause.Cause.TheVariants.{TooManyLive, TooManyOperations}
 use Rattle.vsd_lanes.specs.declared.tree.Live.{Live}
 use Rattle.vsd_lanes.specs.declared.tree.Running.{Running}
 use Rattle.vsd_lanes.specs.declared.tree.Refusal.{Refusal}
 use Rattle.vsd_lanes.specs.declared.tree.Written.{Written}
 use Rattle.vsd_lanes.specs.declared.tree.Written.TheVariants as kind
-use Rattle.vsd_lanes.specs.Meaning.{find, without, begins, fresh, fresh_by, known, known_by, castable, callable, callable_by, shown, and_then, word_of, allowed, live_after, does, once, makes, op_of}
+use Rattle.vsd_lanes.specs.Meaning.{find, without, fresh, fresh_by, known, known_by, castable, callable, callable_by, shown, and_then, word_of, allowed, live_after, does, once, makes, op_of}
 use Rattle.vsd_lanes.specs.Productions as spec
 use Rattle.vsd_lanes.specs.Laws.{written_out}
 use Rattle.vsd_lanes.specs.Allowed.{NamesWhatLives, KeepsToRoom}

@@ -18,7 +18,7 @@ use Rattle.vsd_grammar.specs.declared.cause.Cause.TheVariants.{Unexpected, TooMa
 use Rattle.vsd_grammar.specs.declared.cause.Counted.TheVariants as limit
 use Rattle.vsd_grammar.specs.Input.{Input, same_class}
 use Rattle.vsd_grammar.specs.Grammar.{G, Derives, Turns}
-use Rattle.vsd_grammar.specs.Productions.{is_name, name_by, checked, spelled_name}
+use Rattle.vsd_grammar.specs.Productions.{is_name, name_by, spelled_name}
 use Rattle.vsd_lanes.specs.declared.tree.Running.{Running}
 use Rattle.vsd_lanes.specs.declared.tree.Refusal.{Refusal}
 use Rattle.vsd_lanes.specs.declared.tree.Written.{Written}
@@ -35,7 +35,7 @@ use Rattle.vsd_lanes.specs.declared.repeats.Verb.{Verb}
 use Rattle.vsd_lanes.specs.declared.repeats.Verb.TheVariants as verb
 use Rattle.vsd_lanes.specs.Setting.{Setting, place_from, numbered, host_number, site_number}
 use Rattle.vsd_lanes.specs.Variables.{number_or, number_in, added_by, added}
-use Rattle.vsd_lanes.specs.Types.{IsRoot, is_concrete, rules_of}
+use Rattle.vsd_lanes.specs.Types.{IsRoot, is_concrete}
 use Rattle.vsd_lanes.specs.Meaning.{known, times_of, joined, written_of, op_of}
 use Rattle.vsd_lanes.specs.Names as names
 use Rattle.vsd_lanes.specs.Productions as spec

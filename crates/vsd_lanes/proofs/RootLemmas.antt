@@ -1,5 +1,5 @@
 -- A term of a script is closed, and each of its names is declared, with as many arguments as its declaration has parameters.
-use Rattle.std.proofs.Common.{◌≡◌, ℕ, zero, suc, max, map, Bool, true, false, cond, ◌&&◌, eqb, List, [], ◌∷◌, length, position, Option, Some, None, Result, Ok, Err, refl, ap, sym, subst, ◌∙◌}
+use Rattle.std.proofs.Common.{◌≡◌, ℕ, zero, suc, max, map, Bool, true, false, cond, ◌&&◌, eqb, List, [], ◌∷◌, length, position, Option, Some, None, Ok, refl, ap, sym, subst, ◌∙◌}
 use Rattle.std.specs.Str.{bytes_eq}
 use Rattle.std.proofs.lemmas.Bool.{and_from}
 use Rattle.std.proofs.lemmas.List.{length-map}
@@ -18,7 +18,7 @@ use Rattle.vsd_ast.specs.Lookup.{declared, takes, all_true, is_lawful, lawful_st
 use Rattle.vsd_grammar.specs.declared.cause.Cause.{Cause}
 use Rattle.vsd_grammar.specs.declared.cause.Cause.TheVariants.{Arity}
 use Rattle.vsd_grammar.specs.declared.cause.Form.{Form}
-use Rattle.vsd_grammar.specs.Input.{Input, State, Lookahead, same_class, next}
+use Rattle.vsd_grammar.specs.Input.{Input, State, same_class, next}
 use Rattle.vsd_grammar.specs.Grammar.{G, Derives, Items, MoreItems}
 use Rattle.vsd_grammar.specs.Productions.{is_name}
 use Rattle.vsd_type_syntax.specs.declared.starts.Start.{Start}

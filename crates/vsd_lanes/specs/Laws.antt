@@ -1,10 +1,9 @@
 -- What holds of lanes that are read.
-use Rattle.std.specs.Prelude.{◌≡◌, ℕ, List, map, Ok, ◌++◌}
+use Rattle.std.specs.Prelude.{◌≡◌, List, map, Ok}
 use Rattle.vsd_terms.specs.declared.term.Term.{Term}
 use Rattle.vsd_grammar.specs.Input.{Input}
 use Rattle.vsd_grammar.specs.Grammar.{Derives}
 use Rattle.vsd_lanes.specs.declared.tree.Written.{Written}
-use Rattle.vsd_lanes.specs.declared.tree.Running.{Running}
 use Rattle.vsd_lanes.specs.declared.repeats.Body.{Body}
 use Rattle.vsd_lanes.specs.Meaning.{makes, joined, written_of, op_of}
 use Rattle.vsd_lanes.specs.Setting.{Setting}

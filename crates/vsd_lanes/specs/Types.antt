@@ -1,5 +1,5 @@
 -- What names and types stand for in a script: its declarations, and nothing else.
-use Rattle.std.specs.Prelude.{◌≡◌, ℕ, nat_eq, Bool, true, false, not, ◌&&◌, if◌then◌else◌, IsTrue, List, length, position, Option, Some, None, Result, Ok, Err}
+use Rattle.std.specs.Prelude.{◌≡◌, ℕ, nat_eq, Bool, false, not, ◌&&◌, if◌then◌else◌, IsTrue, List, length, position, Option, Some, None, Result, Ok, Err}
 use Rattle.std.specs.Str.{bytes_eq}
 use Rattle.vsd_terms.specs.declared.term.Term.{Term}
 use Rattle.vsd_terms.specs.Substitution.{parameters_of}
@@ -7,7 +7,6 @@ use Rattle.vsd_ast.specs.declared.declarations.Decl.{Decl}
 use Rattle.vsd_ast.specs.declared.declarations.Decls.{Decls}
 use Rattle.vsd_ast.specs.Lookup.{Head, named, parameter, built_in, head_of, declared, is_lawful}
 use Rattle.vsd_grammar.specs.Input.{State}
-use Rattle.vsd_grammar.specs.declared.token_class.TokenClass.{TokenClass}
 use Rattle.vsd_grammar.specs.declared.cause.Cause.{Cause}
 use Rattle.vsd_grammar.specs.declared.cause.Cause.TheVariants.{UnknownName, Arity}
 use Rattle.vsd_type_syntax.specs.Types.{Rules}
