@@ -7,3 +7,4 @@ pub mod Meant
 pub mod AllowedLemmas
 pub mod RootLemmas
 pub mod RangeLemmas
+pub mod Refusing
