@@ -1,22 +1,23 @@
 -- What setting bits by a rule keeps and gives.
-use Rattle.std.proofs.Common.{◌≡◌, ℕ, nat_eq, ◌<◌, true, inl, inr, List, ◌++◌, length, get_or, Contains, Option, Some, None, refl, sym, ap, ◌∙◌, subst, arith}
+use Rattle.std.proofs.Common.{◌≡◌, ℕ, nat_eq, ◌<◌, Bool, true, false, inl, inr, List, ◌++◌, length, get_or, Contains, Option, Some, None, refl, sym, ap, ◌∙◌, subst, arith}
 use Rattle.std.specs.List.{slice_get}
-use Rattle.std.specs.Option.{option_eq, option_to_list}
+use Rattle.std.specs.Option.{is_some, option_eq, option_to_list}
 use Rattle.std.proofs.lemmas.Bool.{eq-eqb, eqb-true}
 use Rattle.std.proofs.lemmas.Option.{slice_get-get_or, slice_get_within, get_or_from_slice_get}
 use Rattle.vsd_terms.specs.declared.term.Term.{Term}
 use Rattle.vsd_ast.specs.declared.declarations.Decl.{Decl}
 use Rattle.vsd_ast.specs.declared.declarations.Sign.{Sign}
 use Rattle.vsd_ast.specs.declared.declarations.Sign.TheVariants.{Plus, Minus, Plain}
-use Rattle.vsd_ast.specs.Lookup.{Head, named, parameter, built_in, declared, place_of}
+use Rattle.vsd_ast.specs.Lookup.{Head, named, parameter, built_in, head_of, declared, place_of}
 use Rattle.std.proofs.lemmas.List.Elements.{All-contains, Contains-append_right}
 use Rattle.vsd_types.specs.ClosedList.{IsClosedUnder}
 use Rattle.vsd_types.specs.Numbers.{AreNumbers, IsDistinct}
 use Rattle.vsd_types.specs.TypeList.{TypeList}
-use Rattle.vsd_types.specs.Types.{args_of, base_of, children, named_of, object, type_at, declaration_of_head, is_declared_interface, place_of_head}
+use Rattle.vsd_types.specs.Types.{args_of, base_of, children, named_of, object, type_at, declaration_of_head, is_declared_interface, is_interface_type, place_of_head}
 use Rattle.vsd_types.proofs.Declared.{declared-name, declared-place, place_of-within}
 use Rattle.vsd_types.proofs.NumberLemmas.{numbers-at, numbers-length}
 use Rattle.vsd_compat.specs.Compatibility.{AreSameInterface, IsCompatible, IsParameter, Varies, by_variance, equal, covariant, contravariant}
+use Rattle.vsd_compat.specs.Generics.{generic_of, where_interface}
 use Rattle.vsd_compat.specs.Matrices.{Bits, IsSet}
 use Rattle.vsd_compat.specs.Moving.{Adds}
 use Rattle.vsd_compat.specs.Settling.{AreVariantIn, IsSound, VariesIn}
@@ -59,6 +60,32 @@ option_itself None None h = refl
 option_itself None (Some y) h = absurd cc
 option_itself (Some x) None h = absurd cc
 option_itself (Some x) (Some y) h = eq-eqb x y (same_some h)
+
+some_interface : (is : Bool) (place : Option ℕ) → is_some (where_interface is place) ≡ true → is ≡ true
+some_interface true place h = refl
+some_interface false place h = absurd cc
+
+given_place : (is : Bool) (place : Option ℕ) → is ≡ true → where_interface is place ≡ place
+given_place is place h = ap (λ b. where_interface b place) h
+
+-- types with one generic interface are of one interface
+pub same_generic : (ds : List Decl) (t u : Term) → is_some (generic_of ds t) ≡ true → generic_of ds t ≡ generic_of ds u → AreSameInterface ds t u
+same_generic ds t u some same =
+    let of_t = place_of_head ds (head_of t) in
+    let of_u = place_of_head ds (head_of u) in
+    let first : is_interface_type ds t ≡ true = some_interface (is_interface_type ds t) of_t some in
+    let second : is_interface_type ds u ≡ true = some_interface (is_interface_type ds u) of_u (ap is_some (sym same) ∙ some) in
+    record {
+      interface = first;
+      generic = same_head ds (head_of t) (head_of u) first (sym (given_place (is_interface_type ds t) of_t first) ∙ same ∙ given_place (is_interface_type ds u) of_u second);
+    }
+
+generic_of_head : List Decl → Head → Option ℕ
+generic_of_head ds h = where_interface (is_declared_interface (declaration_of_head ds h)) (place_of_head ds h)
+
+pub one_generic : (ds : List Decl) (t u : Term) → AreSameInterface ds t u → generic_of ds t ≡ generic_of ds u
+unfolding generic_of_head
+one_generic ds t u same = ap (generic_of_head ds) same.generic
 
 -- ---- numbers
 

@@ -1,5 +1,6 @@
 -- What contracts of this crate cite.
 pub mod Compatibility
+pub mod Generics
 pub mod Matrices
 pub mod Moving
 pub mod Settling

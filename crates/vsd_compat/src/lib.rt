@@ -2,6 +2,8 @@
 #![tactic(auto)]
 
 mod agenda;
+mod climbing;
+mod generics;
 mod laws;
 mod matrix;
 mod relation;

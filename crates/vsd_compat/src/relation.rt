@@ -3,11 +3,12 @@ ghost use Rattle.std.specs.Prelude.{◌≡◌, ℕ, ◌<◌, ◌↔◌, IsTrue, 
 ghost use Rattle.vsd_types.specs.ClosedList.{IsClosedUnder};
 ghost use Rattle.vsd_types.specs.Numbers.{IsDistinct};
 ghost use Rattle.vsd_types.specs.Types.{type_at};
-ghost use Rattle.vsd_compat.specs.Compatibility.{AreSameInterface};
+ghost use Rattle.vsd_compat.specs.Generics.{AreGenerics};
 ghost use Rattle.vsd_compat.specs.Matrices.{IsSet, bits_of};
 ghost use Rattle.vsd_compat.specs.Moving.{Moves};
 ghost use Rattle.vsd_compat.specs.Settling.{AreVariantIn, HasBase, HasInterfaces, HasVariant, IsSettled, IsSound, VariesIn};
 
+use crate::generics::are_same_interface;
 use crate::matrix::Matrix;
 use vsd_ast::Sign;
 use vsd_types::Closed;
@@ -22,14 +23,12 @@ fn varies(closed: &Closed, matrix: &Matrix, sign: Sign, a: u16, b: u16) -> bool
     if a == b {
         return true;
     }
-    if !closed.is_reference(a) || !closed.is_reference(b) {
-        return false;
-    }
-    match sign {
+    let directed = match sign {
         Sign::Plus => matrix.get(a, b),
         Sign::Minus => matrix.get(b, a),
         Sign::Plain => false,
-    }
+    };
+    directed && closed.is_reference(a) && closed.is_reference(b)
 }
 
 /// Whether the arguments of two types of one interface differ only as the bits let them.
@@ -49,15 +48,6 @@ fn are_variant(closed: &Closed, matrix: &Matrix, t: u16, u: u16) -> bool
         }
     }
     true
-}
-
-/// Whether two types are of one interface.
-fn are_same_interface(closed: &Closed, t: u16, u: u16) -> bool
-    requires first { t < length closed.now.types }
-    requires second { u < length closed.now.types }
-    ensures { IsTrue result ↔ AreSameInterface closed.now.decls.list (type_at closed.now.types t) (type_at closed.now.types u) }
-{
-    closed.is_interface(t) && closed.declaration(t) == closed.declaration(u)
 }
 
 /// Sets what the base of `t` has.
@@ -92,20 +82,27 @@ pub(crate) fn absorb_interfaces(closed: &Closed, matrix: &mut Matrix, t: u16) ->
 }
 
 /// Sets the bit of `t` and `u` where variance gives it.
-pub(crate) fn relate(closed: &Closed, matrix: &mut Matrix, t: u16, u: u16) -> bool
+pub(crate) fn relate(
+    closed: &Closed,
+    generics: &[Option<u16>],
+    matrix: &mut Matrix,
+    t: u16,
+    u: u16,
+) -> bool
     requires count { matrix.old.count ≡ length closed.now.types }
     requires distinct { IsDistinct closed.now.types }
     requires closed { IsClosedUnder closed.now.decls.list closed.now.types }
     requires first { t < matrix.old.count }
     requires second { u < matrix.old.count }
+    requires generics { AreGenerics closed.now generics.now }
     ensures moves { Moves matrix.old matrix.new result }
     ensures sound { IsSound closed.now (bits_of matrix.old) → IsSound closed.now (bits_of matrix.new) }
     ensures settled { result ≡ false → HasVariant closed.now (bits_of matrix.new) t u }
 {
-    if matrix.get(t, u) {
+    if !are_same_interface(closed, generics, t, u) {
         return false;
     }
-    if !are_same_interface(closed, t, u) {
+    if matrix.get(t, u) {
         return false;
     }
     if !are_variant(closed, matrix, t, u) {
@@ -115,11 +112,12 @@ pub(crate) fn relate(closed: &Closed, matrix: &mut Matrix, t: u16, u: u16) -> bo
 }
 
 /// Sets what variance gives `t`.
-fn relate_all(closed: &Closed, matrix: &mut Matrix, t: u16) -> bool
+fn relate_all(closed: &Closed, generics: &[Option<u16>], matrix: &mut Matrix, t: u16) -> bool
     requires count { matrix.old.count ≡ length closed.now.types }
     requires distinct { IsDistinct closed.now.types }
     requires closed { IsClosedUnder closed.now.decls.list closed.now.types }
     requires within { t < matrix.old.count }
+    requires generics { AreGenerics closed.now generics.now }
     ensures moves { Moves matrix.old matrix.new result }
     ensures sound { IsSound closed.now (bits_of matrix.old) → IsSound closed.now (bits_of matrix.new) }
     ensures settled { result ≡ false → (u : ℕ) → u < length closed.now.types → HasVariant closed.now (bits_of matrix.new) t u }
@@ -129,23 +127,24 @@ fn relate_all(closed: &Closed, matrix: &mut Matrix, t: u16) -> bool
     }
     let mut changed = false;
     for u in 0..matrix.count {
-        changed |= relate(closed, matrix, t, u);
+        changed |= relate(closed, generics, matrix, t, u);
     }
     changed
 }
 
 /// Sets what the rules give the row of `t`, and says whether that changes anything.
-pub(crate) fn settle(closed: &Closed, matrix: &mut Matrix, t: u16) -> bool
+pub(crate) fn settle(closed: &Closed, generics: &[Option<u16>], matrix: &mut Matrix, t: u16) -> bool
     requires count { matrix.old.count ≡ length closed.now.types }
     requires distinct { IsDistinct closed.now.types }
     requires closed { IsClosedUnder closed.now.decls.list closed.now.types }
     requires within { t < matrix.old.count }
+    requires generics { AreGenerics closed.now generics.now }
     ensures moves { Moves matrix.old matrix.new result }
     ensures sound { IsSound closed.now (bits_of matrix.old) → IsSound closed.now (bits_of matrix.new) }
     ensures settled { result ≡ false → IsSettled closed.now (bits_of matrix.new) t }
 {
     let by_base = absorb_base(closed, matrix, t);
     let by_interfaces = absorb_interfaces(closed, matrix, t);
-    let by_variance = relate_all(closed, matrix, t);
+    let by_variance = relate_all(closed, generics, matrix, t);
     by_base | by_interfaces | by_variance
 }

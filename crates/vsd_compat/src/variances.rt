@@ -4,18 +4,24 @@ ghost use Rattle.vsd_types.specs.ClosedList.{IsClosedUnder};
 ghost use Rattle.vsd_types.specs.Numbers.{IsDistinct};
 ghost use Rattle.vsd_types.specs.Types.{object as object_type, type_at};
 ghost use Rattle.vsd_compat.specs.Compatibility.{IsCompatible};
+ghost use Rattle.vsd_compat.specs.Generics.{AreGenerics};
 ghost use Rattle.vsd_compat.specs.Improving.{Improves};
 ghost use Rattle.vsd_compat.specs.Matrices.{IsSet, bits_of};
 ghost use Rattle.vsd_compat.specs.Moving.{Moves};
-ghost use Rattle.vsd_compat.specs.Settling.{IsSettled, IsSound, IsStarted, turned};
+ghost use Rattle.vsd_compat.specs.Settling.{IsSettled, IsSound, IsStarted};
 
 use crate::agenda::Links;
+use crate::climbing::{climb_all, turn};
+use crate::generics::generics_of;
 use crate::matrix::Matrix;
 use crate::relation::settle;
 use crate::waking::hurry;
 use std::alloc::{AllocError, Global};
 use vsd_terms::{Builtin, Term};
 use vsd_types::Closed;
+
+// How often all rows are gone over before rows are woken one by one.
+const SWEEPS: u8 = 2;
 
 /// Which types of a closed list are compatible with which, a bit for each two.
 #[derive(Debug, Drop)]
@@ -33,7 +39,8 @@ impl Variances {
     {
         let mut matrix = Matrix::new(alloc, closed.count())?;
         start(closed, &mut matrix);
-        settle_all(alloc, closed, &mut matrix)?;
+        let generics = generics_of(alloc, closed)?;
+        settle_all(alloc, closed, generics.as_slice(), &mut matrix)?;
         Ok(Variances { matrix })
     }
 
@@ -80,30 +87,38 @@ fn start_row(closed: &Closed, matrix: &mut Matrix, object: Option<u16>, t: u16)
 }
 
 // Fills every row until the rules give nothing more.
-fn settle_all(alloc: Global, closed: &Closed, matrix: &mut Matrix) -> Result<(), AllocError>
+fn settle_all(
+    alloc: Global,
+    closed: &Closed,
+    generics: &[Option<u16>],
+    matrix: &mut Matrix,
+) -> Result<(), AllocError>
     requires count { matrix.old.count ≡ length closed.now.types }
     requires distinct { IsDistinct closed.now.types }
     requires closed { IsClosedUnder closed.now.decls.list closed.now.types }
+    requires generics { AreGenerics closed.now generics.now }
     ensures improves { Improves closed.now matrix.old matrix.new }
     ensures settled { OnOk result ((t : ℕ) → t < length closed.now.types → IsSettled closed.now (bits_of matrix.new) t) }
 {
-    if settle_soon(closed, matrix) {
+    if settle_soon(closed, generics, matrix) {
         return Ok(());
     }
-    settle_late(alloc, closed, matrix)
+    settle_late(alloc, closed, generics, matrix)
 }
 
-// Goes over the rows a few times, which is enough for most, and says whether it was. The direction turns, since a row wants
-// those of its bases before it.
-fn settle_soon(closed: &Closed, matrix: &mut Matrix) -> bool
+// Goes over the rows a few times, which is enough for most, and says whether it was. Bases and interfaces come first each
+// time, so that variance, which costs most, is asked of rows that have what these give.
+fn settle_soon(closed: &Closed, generics: &[Option<u16>], matrix: &mut Matrix) -> bool
     requires count { matrix.old.count ≡ length closed.now.types }
     requires distinct { IsDistinct closed.now.types }
     requires closed { IsClosedUnder closed.now.decls.list closed.now.types }
+    requires generics { AreGenerics closed.now generics.now }
     ensures improves { Improves closed.now matrix.old matrix.new }
     ensures settled { result ≡ true → (t : ℕ) → t < length closed.now.types → IsSettled closed.now (bits_of matrix.new) t }
 {
-    for k in 0..4u8 {
-        if !sweep(closed, matrix, k % 2 == 0) {
+    for _turn in 0..SWEEPS {
+        climb_all(closed, matrix);
+        if !sweep(closed, generics, matrix, true) {
             return true;
         }
     }
@@ -111,27 +126,34 @@ fn settle_soon(closed: &Closed, matrix: &mut Matrix) -> bool
 }
 
 // Wakes rows as others change, and goes over all of them until that changes nothing.
-fn settle_late(alloc: Global, closed: &Closed, matrix: &mut Matrix) -> Result<(), AllocError>
+fn settle_late(
+    alloc: Global,
+    closed: &Closed,
+    generics: &[Option<u16>],
+    matrix: &mut Matrix,
+) -> Result<(), AllocError>
     requires count { matrix.old.count ≡ length closed.now.types }
     requires distinct { IsDistinct closed.now.types }
     requires closed { IsClosedUnder closed.now.decls.list closed.now.types }
+    requires generics { AreGenerics closed.now generics.now }
     ensures improves { Improves closed.now matrix.old matrix.new }
     ensures settled { OnOk result ((t : ℕ) → t < length closed.now.types → IsSettled closed.now (bits_of matrix.new) t) }
 {
     let links = Links::new(alloc, closed)?;
     'sweeps: loop {
-        hurry(alloc, closed, matrix, &links)?;
-        if !sweep(closed, matrix, true) {
+        hurry(alloc, closed, generics, matrix, &links)?;
+        if !sweep(closed, generics, matrix, true) {
             return Ok(());
         }
     }
 }
 
 // Fills each row once, and says whether that changes anything.
-fn sweep(closed: &Closed, matrix: &mut Matrix, forward: bool) -> bool
+fn sweep(closed: &Closed, generics: &[Option<u16>], matrix: &mut Matrix, forward: bool) -> bool
     requires count { matrix.old.count ≡ length closed.now.types }
     requires distinct { IsDistinct closed.now.types }
     requires closed { IsClosedUnder closed.now.decls.list closed.now.types }
+    requires generics { AreGenerics closed.now generics.now }
     ensures moves { Moves matrix.old matrix.new result }
     ensures sound { IsSound closed.now (bits_of matrix.old) → IsSound closed.now (bits_of matrix.new) }
     ensures settled { result ≡ false → (t : ℕ) → t < length closed.now.types → IsSettled closed.now (bits_of matrix.new) t }
@@ -140,15 +162,7 @@ fn sweep(closed: &Closed, matrix: &mut Matrix, forward: bool) -> bool
     let mut changed = false;
     for k in 0..count {
         let t = turn(count, k, forward);
-        changed |= settle(closed, matrix, t);
+        changed |= settle(closed, generics, matrix, t);
     }
     changed
-}
-
-// The k-th number from the front or from the back.
-fn turn(count: u16, k: u16, forward: bool) -> u16
-    requires { k < count }
-    ensures { result ≡ turned count forward k }
-{
-    if forward { k } else { count - 1 - k }
 }

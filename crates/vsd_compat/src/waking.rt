@@ -2,12 +2,15 @@
 ghost use Rattle.std.specs.Prelude.{◌≡◌, ◌<◌, length};
 ghost use Rattle.vsd_types.specs.ClosedList.{IsClosedUnder};
 ghost use Rattle.vsd_types.specs.Numbers.{IsDistinct};
+ghost use Rattle.vsd_compat.specs.Generics.{AreGenerics};
 ghost use Rattle.vsd_compat.specs.Improving.{Improves};
 
 use crate::agenda::{Agenda, Links};
+use crate::climbing::climb;
 use crate::matrix::Matrix;
-use crate::relation::{absorb_base, absorb_interfaces, relate};
+use crate::relation::relate;
 use std::alloc::{AllocError, Global};
+use vsd_ast::Sign;
 use vsd_types::Closed;
 
 // How many rows are woken before every row is looked at again.
@@ -17,12 +20,14 @@ const TURNS: u32 = 65536;
 pub(crate) fn hurry(
     alloc: Global,
     closed: &Closed,
+    generics: &[Option<u16>],
     matrix: &mut Matrix,
     links: &Links,
 ) -> Result<(), AllocError>
     requires count { matrix.old.count ≡ length closed.now.types }
     requires distinct { IsDistinct closed.now.types }
     requires closed { IsClosedUnder closed.now.decls.list closed.now.types }
+    requires generics { AreGenerics closed.now generics.now }
     ensures { Improves closed.now matrix.old matrix.new }
 {
     let mut agenda = Agenda::new(alloc, matrix.count)?;
@@ -30,7 +35,7 @@ pub(crate) fn hurry(
         let Some(t) = agenda.take() else {
             return Ok(());
         };
-        wake(closed, matrix, links, &mut agenda, t)?;
+        wake(closed, generics, matrix, links, &mut agenda, t)?;
     }
     Ok(())
 }
@@ -38,6 +43,7 @@ pub(crate) fn hurry(
 // Fills the rows that want the row of `t`.
 fn wake(
     closed: &Closed,
+    generics: &[Option<u16>],
     matrix: &mut Matrix,
     links: &Links,
     agenda: &mut Agenda,
@@ -46,24 +52,20 @@ fn wake(
     requires count { matrix.old.count ≡ length closed.now.types }
     requires distinct { IsDistinct closed.now.types }
     requires closed { IsClosedUnder closed.now.decls.list closed.now.types }
+    requires generics { AreGenerics closed.now generics.now }
     ensures { Improves closed.now matrix.old matrix.new }
 {
     for below in links.below(t) {
-        climb(closed, matrix, agenda, *below)?;
+        lift(closed, matrix, agenda, *below)?;
     }
     for user in links.users(t) {
-        vary(closed, matrix, agenda, *user)?;
+        vary(closed, generics, matrix, agenda, *user)?;
     }
     Ok(())
 }
 
 // Gives the row of `t` what its base and its interfaces have.
-fn climb(
-    closed: &Closed,
-    matrix: &mut Matrix,
-    agenda: &mut Agenda,
-    t: u16,
-) -> Result<(), AllocError>
+fn lift(closed: &Closed, matrix: &mut Matrix, agenda: &mut Agenda, t: u16) -> Result<(), AllocError>
     requires count { matrix.old.count ≡ length closed.now.types }
     requires distinct { IsDistinct closed.now.types }
     ensures { Improves closed.now matrix.old matrix.new }
@@ -71,33 +73,93 @@ fn climb(
     if t >= matrix.count {
         return Ok(());
     }
-    let by_base = absorb_base(closed, matrix, t);
-    let by_interfaces = absorb_interfaces(closed, matrix, t);
-    if by_base | by_interfaces {
+    if climb(closed, matrix, t) {
         return agenda.add(t);
     }
     Ok(())
 }
 
 // Asks anew how `t` and each other type vary.
-fn vary(closed: &Closed, matrix: &mut Matrix, agenda: &mut Agenda, t: u16) -> Result<(), AllocError>
+fn vary(
+    closed: &Closed,
+    generics: &[Option<u16>],
+    matrix: &mut Matrix,
+    agenda: &mut Agenda,
+    t: u16,
+) -> Result<(), AllocError>
     requires count { matrix.old.count ≡ length closed.now.types }
     requires distinct { IsDistinct closed.now.types }
     requires closed { IsClosedUnder closed.now.decls.list closed.now.types }
+    requires generics { AreGenerics closed.now generics.now }
     ensures { Improves closed.now matrix.old matrix.new }
 {
     if t >= matrix.count {
         return Ok(());
     }
+    vary_from(closed, generics, matrix, agenda, t)?;
+    vary_to(closed, generics, matrix, agenda, t)
+}
+
+// Asks anew what `t` varies to. The row of an argument lets it where the parameter is covariant.
+fn vary_from(
+    closed: &Closed,
+    generics: &[Option<u16>],
+    matrix: &mut Matrix,
+    agenda: &mut Agenda,
+    t: u16,
+) -> Result<(), AllocError>
+    requires count { matrix.old.count ≡ length closed.now.types }
+    requires distinct { IsDistinct closed.now.types }
+    requires closed { IsClosedUnder closed.now.decls.list closed.now.types }
+    requires generics { AreGenerics closed.now generics.now }
+    requires within { t < matrix.old.count }
+    ensures { Improves closed.now matrix.old matrix.new }
+{
+    if !has_sign(closed.signs(t), Sign::Plus) {
+        return Ok(());
+    }
     for u in 0..matrix.count {
-        ask(closed, matrix, agenda, t, u)?;
-        ask(closed, matrix, agenda, u, t)?;
+        ask(closed, generics, matrix, agenda, t, u)?;
     }
     Ok(())
 }
 
+// Asks anew what varies to `t`. The row of an argument lets it where the parameter is contravariant.
+fn vary_to(
+    closed: &Closed,
+    generics: &[Option<u16>],
+    matrix: &mut Matrix,
+    agenda: &mut Agenda,
+    t: u16,
+) -> Result<(), AllocError>
+    requires count { matrix.old.count ≡ length closed.now.types }
+    requires distinct { IsDistinct closed.now.types }
+    requires closed { IsClosedUnder closed.now.decls.list closed.now.types }
+    requires generics { AreGenerics closed.now generics.now }
+    requires within { t < matrix.old.count }
+    ensures { Improves closed.now matrix.old matrix.new }
+{
+    if !has_sign(closed.signs(t), Sign::Minus) {
+        return Ok(());
+    }
+    for u in 0..matrix.count {
+        ask(closed, generics, matrix, agenda, u, t)?;
+    }
+    Ok(())
+}
+
+fn has_sign(signs: &[Sign], sign: Sign) -> bool {
+    for s in signs {
+        if *s == sign {
+            return true;
+        }
+    }
+    false
+}
+
 fn ask(
     closed: &Closed,
+    generics: &[Option<u16>],
     matrix: &mut Matrix,
     agenda: &mut Agenda,
     t: u16,
@@ -108,9 +170,10 @@ fn ask(
     requires closed { IsClosedUnder closed.now.decls.list closed.now.types }
     requires first { t < matrix.old.count }
     requires second { u < matrix.old.count }
+    requires generics { AreGenerics closed.now generics.now }
     ensures { Improves closed.now matrix.old matrix.new }
 {
-    if relate(closed, matrix, t, u) {
+    if relate(closed, generics, matrix, t, u) {
         return agenda.add(t);
     }
     Ok(())

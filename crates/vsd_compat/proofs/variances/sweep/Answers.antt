@@ -18,7 +18,7 @@ loop-k-preserved c =
       settled = λ still j below.
           let parts = both_false c.loop-k.changed c.settle-changed.result still in
           elim (cases_order j c.loop-k.k) [
-            | inl here ↦ subst (IsSettled s (bits_of c.settle-changed.new.matrix)) (c.turn-t.ensures ∙ ap (turned count c.args.forward) (sym here)) (row.settled parts.1)
+            | inl here ↦ subst (IsSettled s (bits_of c.settle-changed.new.matrix)) (c.turn-t.ensures.turned ∙ ap (turned count c.args.forward) (sym here)) (row.settled parts.1)
             | inr other ↦
                 let low : j < c.loop-k.k = elim other [ inl less ↦ less | inr more ↦ absurd (omega arith) ] in
                 subst (λ b. IsSettled s b (turned count c.args.forward j)) (sym (row.moves.stays parts.1)) (before.settled parts.0 j low)
