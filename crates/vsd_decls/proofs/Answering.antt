@@ -1,5 +1,6 @@
 -- What the reader answers, from what the productions read.
-use Rattle.std.proofs.Common.{◌≡◌, ℕ, IsTrue, List, Ok, Err, refl, ap, sym, subst, ◌∙◌}
+use Rattle.std.proofs.Common.{◌≡◌, ℕ, ◌≤◌, IsTrue, List, length, Ok, Err, refl, ap, sym, subst, ◌∙◌, arith}
+use Rattle.std.proofs.lemmas.List.{length-map}
 use Rattle.vsd_text.specs.declared.tokens.Token.{Token}
 use Rattle.vsd_ast.specs.declared.declarations.Decl.{Decl}
 use Rattle.vsd_ast.specs.declared.declarations.Decls.{Decls}
@@ -7,11 +8,11 @@ use Rattle.vsd_grammar.specs.declared.cause.Cause.{Cause}
 use Rattle.vsd_grammar.specs.declared.syntax_error.SyntaxError.{SyntaxError}
 use Rattle.vsd_grammar.specs.Input.{Input}
 use Rattle.vsd_grammar.specs.Grammar.{Outcome, run}
-use Rattle.vsd_grammar.specs.Place.{line_of}
+use Rattle.vsd_grammar.specs.Place.{line_of, seen_of}
 use Rattle.vsd_grammar.proofs.Outcomes.{ok_parts, err_ok}
 use Rattle.vsd_grammar.proofs.Soundness.{sound}
 use Rattle.vsd_grammar.proofs.Completeness.{complete}
-use Rattle.vsd_grammar.proofs.Consequences.{dead}
+use Rattle.vsd_grammar.proofs.Consequences.{dead, goes_forward}
 use Rattle.vsd_grammar.proofs.Refusals.{Holds, holds}
 use Rattle.vsd_grammar.proofs.Behaving.{grows}
 use Rattle.vsd_decl_syntax.specs.Causes.{is_decl_cause}
@@ -29,6 +30,13 @@ decl_cause i r e = subst (Holds Passing) e (holds is_decl_cause grows Passing (�
 module _ (text : List ℕ) (tokens : List Token) where
   pub are_declarations : (list : List Decl) (j : Input) → run (List Decl) declarations (beginning text tokens) ≡ Ok (list, j) → AreDeclarations text tokens (decls_of j list)
   are_declarations list j e = record { end = j; derived = sound (List Decl) declarations (beginning text tokens) list j e; names = refl; rest = refl }
+
+  -- a reading ends at a token of the text, or at their end
+  pub rest_inside : (list : List Decl) (j : Input) → run (List Decl) declarations (beginning text tokens) ≡ Ok (list, j) → j.at ≤ length tokens
+  rest_inside list j e =
+      let w = (goes_forward (List Decl) declarations (beginning text tokens) list j e).1 in
+      let n = length-map tokens (seen_of text) in
+      omega (arith, w, n)
 
   -- whatever is derived is what is read
   read_of : (d : Decls) (a : AreDeclarations text tokens d) → run (List Decl) declarations (beginning text tokens) ≡ Ok (d.list, a.end)

@@ -30,6 +30,7 @@ pub fn read_decls(alloc: Global, text: &[u8], tokens: &[Token]) -> Result<Decls,
     ensures found { IfOk result (AreDeclarations text.now tokens.now) }
     ensures only { (d : Decls) → AreDeclarations text.now tokens.now d → IsOnly d result }
     ensures formed { IfOk result AreWellFormed }
+    ensures rest { IfOk result (λ d. d.rest ≤ length tokens.now) }
     ensures refused { IfErr result (λ e. IfSome (refusal_of e) (IsFirstRefusal text.now tokens.now)) }
     ensures whenever { (shown : ℕ × Cause) → IsFirstRefusal text.now tokens.now shown → IsRefused shown result }
     ensures dead { IsDead text.now tokens.now }

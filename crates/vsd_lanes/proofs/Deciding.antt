@@ -1,13 +1,11 @@
 -- Lanes are read in one way, whatever follows them.
-use Rattle.std.proofs.Common.{◌≡◌, ℕ, zero, suc, Bool, true, false, List, Option, Some, None, Result, Ok, Err, IsTrue, refl, ap, sym, ◌∙◌}
+use Rattle.std.proofs.Common.{ℕ, zero, suc, Bool, false, List, Option, Some, None, Result, Ok, Err, refl}
 use Rattle.vsd_terms.specs.declared.term.Term.{Term}
 use Rattle.vsd_ast.specs.declared.declarations.Decls.{Decls}
 use Rattle.vsd_ast.specs.declared.scripts.Var.{Var}
 use Rattle.vsd_grammar.specs.declared.token_class.TokenClass.{TokenClass}
 use Rattle.vsd_grammar.specs.declared.cause.Cause.{Cause}
-use Rattle.vsd_grammar.specs.Input.{Input, Lookahead, class_at, same_class}
 use Rattle.vsd_grammar.specs.Grammar.{G, Decides}
-use Rattle.vsd_grammar.specs.Productions.{checked, spelled_number}
 use Rattle.vsd_grammar.proofs.Deciding.{anything, decides_expect, decides_spelled_name, decides_spelled_number, decides_then_pass, decides_checked}
 use Rattle.vsd_type_syntax.proofs.Deciding.{decides_written}
 use Rattle.vsd_lanes.specs.declared.tree.Running.{Running}

@@ -5,3 +5,6 @@ pub mod VariableLemmas
 pub mod Deciding
 pub mod Meant
 pub mod AllowedLemmas
+pub mod RootLemmas
+pub mod RangeLemmas
+pub mod Refusing

@@ -1,26 +1,21 @@
 -- The operations of a lane that is read are those that stand in it.
-use Rattle.std.proofs.Common.{◌≡◌, ℕ, zero, suc, ◌+◌, ◌-◌, ◌≤◌, ◌<◌, ◌&&◌, Bool, true, false, cond, leb, ltb, List, [], ◌∷◌, ◌++◌, map, length, Option, Some, None, Result, Ok, Err, IsTrue, refl, ap, sym, subst, ◌∙◌, append_assoc, arith}
+use Rattle.std.proofs.Common.{◌≡◌, ℕ, zero, suc, ◌-◌, ◌≤◌, ◌&&◌, Bool, true, false, cond, leb, ltb, List, [], ◌∷◌, ◌++◌, map, length, Option, Some, None, Result, Ok, Err, refl, ap, sym, subst, ◌∙◌, append_assoc, arith}
 use Rattle.std.proofs.lemmas.Bool.{leb-true}
 use Rattle.std.proofs.lemmas.List.{append-nil, map-append}
 use Rattle.std.specs.List.{position}
 use Rattle.std.specs.Str.{bytes_eq}
-use Rattle.vsd_terms.specs.declared.term.Term.{Term}
-use Rattle.vsd_ast.specs.declared.scripts.Op.{Op}
 use Rattle.vsd_ast.specs.declared.scripts.Var.{Var}
 use Rattle.vsd_ast.specs.declared.scripts.Var.TheVariants as var
-use Rattle.vsd_grammar.specs.declared.token_class.TokenClass.{TokenClass}
 use Rattle.vsd_grammar.specs.declared.token_class.TokenClass.TheVariants as class
 use Rattle.vsd_grammar.specs.declared.cause.Cause.{Cause}
 use Rattle.vsd_grammar.specs.declared.cause.Cause.TheVariants.{Unexpected}
-use Rattle.vsd_grammar.specs.Input.{Input, Lookahead, class_at, same_class}
+use Rattle.vsd_grammar.specs.Input.{Input, same_class}
 use Rattle.vsd_grammar.specs.Grammar.{G, Derives, Turns}
 use Rattle.vsd_grammar.specs.Productions.{checked, spelled_number, number_of, in_range, digits_from}
 use Rattle.vsd_lanes.specs.declared.tree.Running.{Running}
 use Rattle.vsd_lanes.specs.declared.tree.Refusal.{Refusal}
 use Rattle.vsd_lanes.specs.declared.tree.Written.{Written}
 use Rattle.vsd_lanes.specs.declared.tree.Written.TheVariants as kind
-use Rattle.vsd_lanes.specs.declared.tree.Item.{Item}
-use Rattle.vsd_lanes.specs.declared.tree.Item.TheVariants.{Once, Repeat}
 use Rattle.vsd_lanes.specs.declared.reading.Reading.{Reading}
 use Rattle.vsd_lanes.specs.declared.reading.Fresh.{Fresh}
 use Rattle.vsd_lanes.specs.declared.reading.Own.{Own}
@@ -31,20 +26,20 @@ use Rattle.vsd_lanes.specs.declared.repeats.Body.{Body}
 use Rattle.vsd_lanes.specs.declared.repeats.Verb.{Verb}
 use Rattle.vsd_lanes.specs.declared.repeats.Verb.TheVariants as verb
 use Rattle.vsd_lanes.specs.Setting.{Setting, host_number}
-use Rattle.vsd_lanes.specs.Meaning.{begins, fresh, known, castable, callable, shown, and_then, word_of, allowed, does, once, makes, times_of, joined, written_of, op_of}
+use Rattle.vsd_lanes.specs.Meaning.{begins, fresh, known, castable, shown, and_then, word_of, allowed, does, once, makes, times_of, joined, written_of, op_of}
 use Rattle.vsd_lanes.specs.Types.{is_concrete}
 use Rattle.vsd_lanes.specs.Names as names
 use Rattle.vsd_lanes.specs.Productions as spec
 use Rattle.vsd_lanes.specs.Laws.{written_out, MeansItsItems, HasOpsOfItems}
-use Rattle.vsd_lanes.proofs.Making.{written_of-Once, written_of-Repeat, makes_append, makes_one, makes_none, joined-cons, times_of-suc}
+use Rattle.vsd_lanes.proofs.Making.{written_of-Once, written_of-Repeat, makes_append, makes_one, makes_none, times_of-suc}
 
 -- ---- what the parts of an operation say
 
-shows_none : (c : Option Cause) (i : Input) (u : Unit {0}) (j : Input) → Derives (Unit {0}) (names.shows c) i u j → c ≡ None
+pub shows_none : (c : Option Cause) (i : Input) (u : Unit {0}) (j : Input) → Derives (Unit {0}) (names.shows c) i u j → c ≡ None
 shows_none None i u j d = refl
 shows_none (Some cause) i u j d = absurd d
 
-checked_ok : (A : Type 0) (r : Result A Cause) (i : Input) (x : A) (j : Input) → Derives A (checked A r) i x j → r ≡ Ok x
+pub checked_ok : (A : Type 0) (r : Result A Cause) (i : Input) (x : A) (j : Input) → Derives A (checked A r) i x j → r ≡ Ok x
 checked_ok A (Ok a) i x j d = ap Ok d.0
 checked_ok A (Err cause) i x j d = absurd d
 
@@ -65,7 +60,7 @@ fresh_allowed e s i f j d =
     let none = no_host (host_number e.hosts name) _ (shows_none (names.fresh_cause e s name) d.3.1 d.3.3.0 d.3.3.1 d.3.3.2) in
     (subst (λ (g : Fresh). fresh s.running.live g.variable ≡ None) made none, sym (ap (λ (g : Fresh). g.lane.running) made))
 
-if_none_ok : {A : Type 0} (a b : A) (c : Option Cause) → names.if_none a c ≡ Ok b → (c ≡ None) × (a ≡ b)
+pub if_none_ok : {A : Type 0} (a b : A) (c : Option Cause) → names.if_none a c ≡ Ok b → (c ≡ None) × (a ≡ b)
 if_none_ok a b None e = (refl, cc)
 if_none_ok a b (Some cause) e = absurd cc
 
@@ -162,7 +157,7 @@ cast_means e s i p j d =
 
 -- ---- many
 
-joined-push : (xss : List (List Written)) (ys : List Written) → joined (xss ++ ys ∷ []) ≡ joined xss ++ ys
+pub joined-push : (xss : List (List Written)) (ys : List Written) → joined (xss ++ ys ∷ []) ≡ joined xss ++ ys
 unfolding joined
 joined-push [] ys = append-nil ys
 joined-push (xs ∷ xss) ys = ap (λ l. xs ++ l) (joined-push xss ys) ∙ sym (append_assoc xs (joined xss) ys)

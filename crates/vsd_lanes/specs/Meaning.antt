@@ -1,5 +1,5 @@
 -- What a lane means: its operations one after another, with repeats written out.
-use Rattle.std.specs.Prelude.{◌≡◌, ℕ, zero, suc, ◌+◌, nat_lt, nat_eq, Bool, true, false, cond, if◌then◌else◌, List, [], ◌∷◌, ◌++◌, length, Option, Some, None, Result, Ok, Err}
+use Rattle.std.specs.Prelude.{◌≡◌, ℕ, zero, suc, nat_lt, nat_eq, if◌then◌else◌, List, [], ◌∷◌, ◌++◌, length, Option, Some, None, Result, Ok, Err}
 use Rattle.vsd_ast.specs.declared.scripts.Op.{Op}
 use Rattle.vsd_ast.specs.declared.scripts.Op.TheVariants as op
 use Rattle.vsd_ast.specs.declared.scripts.Var.{Var}

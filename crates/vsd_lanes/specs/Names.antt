@@ -1,5 +1,5 @@
 -- The names in a lane's operations, and which of them are known where.
-use Rattle.std.specs.Prelude.{ℕ, Bool, if◌then◌else◌, List, position, Option, Some, None, Result, Ok, Err}
+use Rattle.std.specs.Prelude.{ℕ, if◌then◌else◌, List, position, Option, Some, None, Result, Ok, Err}
 use Rattle.std.specs.Str.{bytes_eq}
 use Rattle.vsd_ast.specs.declared.scripts.Var.{Var}
 use Rattle.vsd_ast.specs.declared.scripts.Var.TheVariants.{Host, Own}

@@ -1,12 +1,12 @@
 -- What names and types stand for in a script: its declarations, and nothing else.
-use Rattle.std.specs.Prelude.{ℕ, nat_eq, Bool, true, false, not, ◌&&◌, if◌then◌else◌, List, length, position, Option, Some, None, Result, Ok, Err}
+use Rattle.std.specs.Prelude.{◌≡◌, ℕ, nat_eq, Bool, false, not, ◌&&◌, if◌then◌else◌, IsTrue, List, length, position, Option, Some, None, Result, Ok, Err}
 use Rattle.std.specs.Str.{bytes_eq}
 use Rattle.vsd_terms.specs.declared.term.Term.{Term}
+use Rattle.vsd_terms.specs.Substitution.{parameters_of}
 use Rattle.vsd_ast.specs.declared.declarations.Decl.{Decl}
 use Rattle.vsd_ast.specs.declared.declarations.Decls.{Decls}
-use Rattle.vsd_ast.specs.Lookup.{Head, named, parameter, built_in, head_of, declared}
+use Rattle.vsd_ast.specs.Lookup.{Head, named, parameter, built_in, head_of, declared, is_lawful}
 use Rattle.vsd_grammar.specs.Input.{State}
-use Rattle.vsd_grammar.specs.declared.token_class.TokenClass.{TokenClass}
 use Rattle.vsd_grammar.specs.declared.cause.Cause.{Cause}
 use Rattle.vsd_grammar.specs.declared.cause.Cause.TheVariants.{UnknownName, Arity}
 use Rattle.vsd_type_syntax.specs.Types.{Rules}
@@ -55,3 +55,10 @@ is_concrete_head ds (built_in b) = false
 -- a class that isn't abstract: what a call may have as its object
 abbrev pub is_concrete : List Decl → Term → Bool
 is_concrete ds t = is_concrete_head ds (head_of t)
+
+-- ---- roots
+
+-- a term without parameters whose names are declared, each with as many arguments as its declaration has parameters
+pub record IsRoot (ds : List Decl) (t : Term) : Type 0 where
+  pub closed : parameters_of t ≡ 0
+  pub lawful : IsTrue (is_lawful ds t)

@@ -1,5 +1,5 @@
 -- The latest methods of each name, as methods are put in by rank.
-use Rattle.std.proofs.Common.{◌≡◌, ℕ, ◌+◌, ◌-◌, ◌*◌, ◌<◌, ◌≤◌, Bool, true, false, cond, List, length, refl, sym, ap, ◌∙◌, subst, Option, Some, None, inl, inr, arith}
+use Rattle.std.proofs.Common.{◌≡◌, ℕ, ◌+◌, ◌-◌, ◌*◌, ◌<◌, ◌≤◌, Bool, true, false, cond, List, length, get_or, refl, sym, ap, ◌∙◌, subst, Option, Some, None, inl, inr, arith}
 use Rattle.std.specs.Bool.{Decides}
 use Rattle.std.specs.Cmp.{unsigned_Decides}
 use Rattle.std.specs.List.{slice_get}
@@ -11,7 +11,7 @@ use Rattle.vsd_ast.specs.declared.declarations.Decl.{Decl}
 use Rattle.vsd_ast.specs.declared.declarations.Method.{Method}
 use Rattle.vsd_lift.specs.Settled.{IsSettled}
 use Rattle.vsd_roots.specs.Methods.{IsMethod}
-use Rattle.vsd_roots.specs.Order.{AreLatest, IsLatest, IsLink, method_rank, rank, same_name}
+use Rattle.vsd_roots.specs.Order.{AreLatest, IsLatest, IsLink, IsShallower, method_rank, rank, same_name}
 use Rattle.vsd_roots.specs.declared.place.Place.{Place}
 use Rattle.vsd_roots.proofs.TableLemmas.{method_within, same_method}
 
@@ -115,6 +115,16 @@ module _ (ds : List Decl) (places depths : List ℕ) (settled : IsSettled ds pla
         method = m;
         is_method = is;
         latest = subst (λ (o : Option Place). P m.name (method_rank depths p) o) (sym found) (subst (λ (n : ℕ). P m.name n (find k)) (sym here) (subst (λ (name : List ℕ). P name bound (find k)) key (latest.each k)));
+      }
+
+  -- what is found of a name, where the methods of the less deep declarations are in
+  pub IsShallower-found : (find : Bor (List ℕ) → Option Place) (bound : ℕ) (p : Place) (m : Method) (k : Bor (List ℕ)) (before : Option Place) → IsMethod ds p m → 1024 * get_or depths p.decl 0 * 256 ≡ bound → k.now ≡ m.name → before ≡ find k → AreLatest ds depths bound find → IsShallower ds depths p before
+  IsShallower-found find bound p m k before is here key found latest =
+      let P : List ℕ → ℕ → Option Place → Type 0 = λ name n o. IsLatest ds depths name n o in
+      record {
+        method = m;
+        is_method = is;
+        latest = subst (λ (o : Option Place). P m.name (1024 * get_or depths p.decl 0 * 256) o) (sym found) (subst (λ (n : ℕ). P m.name n (find k)) (sym here) (subst (λ (name : List ℕ). P name bound (find k)) key (latest.each k)));
       }
 
   pub latest-skip_ranks : (find : Bor (List ℕ) → Option Place) (bound next : ℕ) → bound ≤ next → ((i : ℕ) → i < length ds → rank depths i < next → rank depths i < bound) → AreLatest ds depths (bound * 256) find → AreLatest ds depths (next * 256) find

@@ -1,5 +1,5 @@
 -- The search for the nearest match among the methods of one name.
-use Rattle.std.proofs.Common.{◌≡◌, ℕ, suc, All, IfSome, [], ◌∷◌, map, ◌<◌, ◌≤◌, List, length, refl, sym, ap, ◌∙◌, subst, Option, Some, None, inl, inr, arith}
+use Rattle.std.proofs.Common.{◌≡◌, ℕ, suc, All, IfSome, [], ◌∷◌, map, ◌*◌, ◌<◌, ◌≤◌, List, length, get_or, refl, sym, ap, ◌∙◌, subst, Option, Some, None, inl, inr, arith}
 use Rattle.std.specs.List.{slice_get}
 use Rattle.std.proofs.lemmas.Bool.{cases_lt, cases_order}
 use Rattle.vsd_ast.specs.declared.declarations.Decl.{Decl}
@@ -16,7 +16,7 @@ use Rattle.vsd_lift.specs.Settled.{IsSettled}
 use Rattle.vsd_lift.proofs.ChainLemmas.{chain-deeper, chain-room}
 use Rattle.vsd_roots.specs.Levels.{IsStart, IsUpward}
 use Rattle.vsd_roots.specs.Methods.{IsMethod}
-use Rattle.vsd_roots.specs.Order.{IsLatest, IsLink, method_rank, rank}
+use Rattle.vsd_roots.specs.Order.{IsLatest, IsLink, IsShallower, method_rank, rank}
 use Rattle.vsd_roots.specs.Slots.{HasMatch, IsNearest, Matches}
 use Rattle.vsd_roots.specs.declared.place.Place.{Place}
 use Rattle.vsd_roots.proofs.LinkLemmas.{one_of_rank}
@@ -28,8 +28,8 @@ same_place p q decls methods =
     ap (λ (d : ℕ). made d p.method) decls ∙ ap (made q.decl) methods
 
 module _ (ds : List Decl) (places depths chain : List ℕ) (settled : IsSettled ds places depths) (up : IsUpward ds chain) (m : Method) where
-  -- a match has a lower rank than the methods of the chain's first declaration
-  pub match_below : (l : ℕ) (p r : Place) → slice_get chain 0 ≡ Some p.decl → Matches ds chain m l r → method_rank depths r < method_rank depths p
+  -- a match stands in a declaration that is less deep than the chain's first
+  pub match_below : (l : ℕ) (p r : Place) → slice_get chain 0 ≡ Some p.decl → Matches ds chain m l r → method_rank depths r < 1024 * get_or depths p.decl 0 * 256
   match_below l p r first matches =
       let w = method_within ds places depths r matches.other settled matches.is_other in
       let decl = w.decl in
@@ -117,14 +117,14 @@ signature_fits ds places depths chain q level other settled up is here =
     result_fits None parameters room written = tt
     result_fits (Some t) parameters room written = room (parameters_of t) written.bound
 
--- the search begins at the link of the method itself
-pub start_of_link : (ds : List Decl) (places depths chain : List ℕ) → IsSettled ds places depths → (p : Place) (m : Method) (before : Option Place) → IsMethod ds p m → IsChain ds p.decl chain → IsLink ds depths p before → IsStart ds depths chain m before
-start_of_link ds places depths chain settled p m before is chained link =
+-- the search begins among the declarations that are less deep
+pub start_of_shallower : (ds : List Decl) (places depths chain : List ℕ) → IsSettled ds places depths → (p : Place) (m : Method) (before : Option Place) → IsMethod ds p m → IsChain ds p.decl chain → IsShallower ds depths p before → IsStart ds depths chain m before
+start_of_shallower ds places depths chain settled p m before is chained link =
     let up : IsUpward ds chain = record { from = p.decl; within = (method_within ds places depths p m settled is).declared; chained = chained } in
     let one = same_method ds p p link.method m refl refl link.is_method is in
-    let P : List ℕ → Type 0 = λ name. IsLatest ds depths name (method_rank depths p) before in
+    let P : List ℕ → Type 0 = λ name. IsLatest ds depths name (1024 * get_or depths p.decl 0 * 256) before in
     record {
-      bound = method_rank depths p;
+      bound = 1024 * get_or depths p.decl 0 * 256;
       latest = subst P (ap (λ (x : Method). x.name) one) link.latest;
       below = λ l r other. match_below ds places depths chain settled up m l p r chained.first other;
     }

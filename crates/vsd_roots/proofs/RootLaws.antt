@@ -6,7 +6,7 @@ use Rattle.std.proofs.lemmas.Bool.{false≢true}
 use Rattle.vsd_ast.specs.declared.declarations.Decl.{Decl}
 use Rattle.vsd_ast.specs.declared.declarations.Method.{Method}
 use Rattle.vsd_lift.proofs.ChainLemmas.{chain-unique}
-use Rattle.vsd_roots.specs.Slots.{Climbs, HasMatch, IsNearest, IsRoot, Overrides, StartsSlot}
+use Rattle.vsd_roots.specs.Slots.{Climbs, HasMatch, IsNearest, IsRoot, Overrides, Reaches, StartsSlot}
 use Rattle.vsd_roots.specs.declared.place.Place.{Place}
 use Rattle.vsd_roots.proofs.MatchLemmas.{same_place}
 use Rattle.vsd_roots.proofs.TableLemmas.{same_method}
@@ -53,11 +53,8 @@ module _ (ds : List Decl) where
             )
       ]
 
-  abbrev pub Reaches : Place → Place → Type 0
-  Reaches p q = (n : ℕ) × Climbs ds n p q
-
   -- behind the first override the way to the root goes on
-  behind_first : (p q root : Place) (n : ℕ) → Overrides ds p q → StartsSlot ds root → Climbs ds n p root → Reaches q root
+  behind_first : (p q root : Place) (n : ℕ) → Overrides ds p q → StartsSlot ds root → Climbs ds n p root → Reaches ds q root
   behind_first p q root zero over starts same = absurd (overrides_or_starts root q (subst (λ (r : Place). Overrides ds r q) same over) starts)
   behind_first p q root (suc n) over starts climbs =
       let one = overrides_only p climbs.0 q climbs.1.0 over in
@@ -81,7 +78,7 @@ module _ (ds : List Decl) where
       stays r s other.steps a.starts other.climbs
 
   -- two methods have one root exactly where overrides lead both to one method
-  pub one_root : (p q r s : Place) → IsRoot ds p r → IsRoot ds q s → (r ≡ s) ↔ ((c : Place) × (Reaches p c × Reaches q c))
+  pub one_root : (p q r s : Place) → IsRoot ds p r → IsRoot ds q s → (r ≡ s) ↔ ((c : Place) × (Reaches ds p c × Reaches ds q c))
   one_root p q r s a b = (
     λ same. (r, ((a.steps, a.climbs), (b.steps, subst (λ (t : Place). Climbs ds b.steps q t) (sym same) b.climbs))),
     λ meet. root_only meet.0 r s (root_of_reached meet.1.0.0 p meet.0 r meet.1.0.1 a) (root_of_reached meet.1.1.0 q meet.0 s meet.1.1.1 b),

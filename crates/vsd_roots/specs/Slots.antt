@@ -55,6 +55,10 @@ abbrev pub Climbs : List Decl → ℕ → Place → Place → Type 0
 Climbs ds zero p q = p ≡ q
 Climbs ds (suc n) p q = (r : Place) × (Overrides ds p r × Climbs ds n r q)
 
+-- overrides lead from one method to another
+abbrev pub Reaches : List Decl → Place → Place → Type 0
+Reaches ds p q = (n : ℕ) × Climbs ds n p q
+
 -- the method that is reached by overrides and has a slot of its own
 pub record IsRoot (ds : List Decl) (p root : Place) : Type 0 where
   pub steps : ℕ

@@ -5,7 +5,7 @@ ghost use Rattle.vsd_lift.specs.Chain.{IsChain};
 ghost use Rattle.vsd_lift.specs.Settled.{IsSettled};
 ghost use Rattle.vsd_roots.specs.Levels.{AreLevels, IsOnce, IsStart, IsUpward};
 ghost use Rattle.vsd_roots.specs.Methods.{IsMethod, Tabulates, TabulatesRow};
-ghost use Rattle.vsd_roots.specs.Order.{IsLink};
+ghost use Rattle.vsd_roots.specs.Order.{IsLink, IsShallower};
 ghost use Rattle.vsd_roots.specs.Slots.{HasMatch, IsNearest, IsOverridden, Matches};
 
 use crate::Place;
@@ -87,6 +87,7 @@ fn overridden_by(
     chain: &[usize],
     levels: &[usize],
     links: &[Items<Option<Place>>],
+    shallower: &[Items<Option<Place>>],
     place: Place,
     method: &Method,
 ) -> Option<Place>
@@ -94,13 +95,14 @@ fn overridden_by(
     requires chained { IsChain h.now.decls.now place.decl chain.now }
     requires levels { AreLevels (length h.now.decls.now) chain.now levels.now }
     requires links { Tabulates h.now.decls.now (IsLink h.now.decls.now h.now.depths.now) links.now }
+    requires shallower { Tabulates h.now.decls.now (IsShallower h.now.decls.now h.now.depths.now) shallower.now }
     requires is { IsMethod h.now.decls.now place method.now }
     ensures { IsOverridden h.now.decls.now place result }
 {
     if method.newslot {
         return None;
     }
-    let start = entry_of(links, place);
+    let start = entry_of(shallower, place);
     nearest(h, chain, levels, links, method, start)
 }
 
@@ -109,11 +111,13 @@ fn overridden_row(
     alloc: Global,
     h: &Hierarchy<'_>,
     links: &[Items<Option<Place>>],
+    shallower: &[Items<Option<Place>>],
     at: usize,
 ) -> Result<Items<Option<Place>>, AllocError>
     requires settled { IsSettled h.now.decls.now h.now.places.now h.now.depths.now }
     requires within { at < length h.now.decls.now }
     requires links { Tabulates h.now.decls.now (IsLink h.now.decls.now h.now.depths.now) links.now }
+    requires shallower { Tabulates h.now.decls.now (IsShallower h.now.decls.now h.now.depths.now) shallower.now }
     ensures { IfOk result (TabulatesRow h.now.decls.now (IsOverridden h.now.decls.now) at) }
 {
     let upward = chain(alloc, h, at)?;
@@ -130,6 +134,7 @@ fn overridden_row(
             upward.as_slice(),
             levels.as_slice(),
             links,
+            shallower,
             place,
             &methods[method],
         );
@@ -152,7 +157,13 @@ pub fn overridden(
     let linked = links(alloc, h)?;
     let mut rows = Items::new(alloc);
     for at in 0..h.decls.len() {
-        let row = overridden_row(alloc, h, linked.as_slice(), at)?;
+        let row = overridden_row(
+            alloc,
+            h,
+            linked.before.as_slice(),
+            linked.shallower.as_slice(),
+            at,
+        )?;
         rows.push(row)?;
     }
     Ok(rows)

@@ -1,8 +1,9 @@
-use Rattle.std.proofs.Common.{rules, sym, subst, ◌∙◌}
+use Rattle.std.proofs.Common.{rules, ◌≤◌, length, sym, subst, ◌∙◌}
+use Rattle.vsd_ast.specs.declared.declarations.Decls.{Decls}
 use Rattle.vsd_decls.specs.Declarations.{beginning, AreDeclarations, decls_of}
 use Rattle.vsd_ast.specs.WellFormed.{AreWellFormed}
 use Rattle.vsd_decls.proofs.WellFormed.{are_well_formed}
-use Rattle.vsd_decls.proofs.Answering.{decl_cause, are_declarations, only_read, none_derived, none_refused, only_refusal, is_dead}
+use Rattle.vsd_decls.proofs.Answering.{decl_cause, are_declarations, rest_inside, only_read, none_derived, none_refused, only_refusal, is_dead}
 use Rattle.vsd_decls.proofs.reading.read_decls.Goals as goal
 
 pub returns-in-Ok-clause-found : goal.returns-in-Ok-clause-found
@@ -11,6 +12,9 @@ returns-in-Ok-clause-found c = subst (AreDeclarations c.args.text.now c.args.tok
 pub returns-in-Ok-clause-formed : goal.returns-in-Ok-clause-formed
 returns-in-Ok-clause-formed c = subst AreWellFormed (sym c.decls_of.ensures) (are_well_formed c.args.text.now c.args.tokens.now (decls_of c.declarations.new.cursor c.in-Ok.list)
     (are_declarations c.args.text.now c.args.tokens.now c.in-Ok.list c.declarations.new.cursor (search rules)))
+
+pub returns-in-Ok-clause-rest : goal.returns-in-Ok-clause-rest
+returns-in-Ok-clause-rest c = subst (λ (d : Decls). d.rest ≤ length c.args.tokens.now) (sym c.decls_of.ensures) (rest_inside c.args.text.now c.args.tokens.now c.in-Ok.list c.declarations.new.cursor (search rules))
 
 pub returns-in-Ok-clause-only : goal.returns-in-Ok-clause-only
 returns-in-Ok-clause-only c = λ d a. only_read c.args.text.now c.args.tokens.now c.in-Ok.list c.declarations.new.cursor (search rules) d a ∙ sym c.decls_of.ensures

@@ -1,4 +1,4 @@
-use Rattle.std.proofs.Common.{◌≡◌, ◌++◌, ◌-◌, ◌+◌, map, drop, sym, ap, ◌∙◌, arith, rules}
+use Rattle.std.proofs.Common.{◌-◌, ◌+◌, map, drop, ap, ◌∙◌, arith, rules}
 use Rattle.vsd_lanes.specs.Meaning.{makes, times_of, joined, written_of}
 use Rattle.vsd_lanes.proofs.Making.{written_of-Once, makes_one, makes_none, makes_on, makes_stop, does_as, rounds_left, no_rounds_left, items_left, no_items_left}
 use Rattle.vsd_lanes.proofs.meaning.+again.Goals as goal

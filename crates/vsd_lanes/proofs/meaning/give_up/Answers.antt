@@ -1,7 +1,6 @@
 use Rattle.std.proofs.Common.{◌≡◌, suc, ◌++◌, ◌+◌, List, take, drop, get_or, false, sym, ap, subst, ◌∙◌, arith}
 use Rattle.vsd_lanes.specs.declared.tree.Live.{Live}
 use Rattle.std.specs.List.{remove}
-use Rattle.vsd_lanes.specs.Meaning.{without}
 use Rattle.vsd_lanes.proofs.LiveLemmas.{without_here, without_later, without_none}
 use Rattle.vsd_lanes.proofs.meaning.give_up.Goals as goal
 

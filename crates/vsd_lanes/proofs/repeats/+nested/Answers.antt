@@ -1,5 +1,5 @@
 use Rattle.std.proofs.Common.{◌≡◌, ◌-◌, suc, Err, refl, sym, subst, arith}
-use Rattle.vsd_grammar.specs.Grammar.{run, syntax_error}
+use Rattle.vsd_grammar.specs.Grammar.{run}
 use Rattle.vsd_grammar.specs.Productions.{Reads}
 use Rattle.vsd_grammar.proofs.Outcomes.{reads_refused}
 use Rattle.vsd_lanes.specs.Setting.{setting_of}

@@ -3,10 +3,10 @@ use Rattle.vsd_ast.specs.declared.declarations.Decl.{Decl}
 use Rattle.vsd_ast.specs.declared.declarations.Method.{Method}
 use Rattle.vsd_lift.specs.Chain.{IsChain}
 use Rattle.vsd_roots.specs.Methods.{IsMethod}
-use Rattle.vsd_roots.specs.Order.{IsLink}
+use Rattle.vsd_roots.specs.Order.{IsShallower}
 use Rattle.vsd_roots.specs.Slots.{HasMatch, IsNearest, IsOverridden}
 use Rattle.vsd_roots.specs.declared.place.Place.{Place}
-use Rattle.vsd_roots.proofs.MatchLemmas.{start_of_link}
+use Rattle.vsd_roots.proofs.MatchLemmas.{start_of_shallower}
 use Rattle.vsd_roots.proofs.TableLemmas.{entry_has, method_within, some_entry}
 use Rattle.vsd_roots.proofs.overriding.overridden_by.Goals as goal
 
@@ -24,7 +24,7 @@ returns-then-method c = record {
 }
 
 pub entry_of-start-requires : goal.entry_of-start-requires
-entry_of-start-requires c = some_entry _ _ (c.requires.links.each c.args.place c.args.method.now c.requires.is)
+entry_of-start-requires c = some_entry _ _ (c.requires.shallower.each c.args.place c.args.method.now c.requires.is)
 
 pub nearest-requires-clause-upward : goal.nearest-requires-clause-upward
 nearest-requires-clause-upward c = record {
@@ -36,8 +36,8 @@ nearest-requires-clause-upward c = record {
 pub nearest-requires-clause-start : goal.nearest-requires-clause-start
 nearest-requires-clause-start c =
     let h = c.args.h.now in
-    let link = entry_has _ c.entry_of-start.result (IsLink h.decls.now h.depths.now c.args.place) c.entry_of-start.ensures (c.requires.links.each c.args.place c.args.method.now c.requires.is) in
-    start_of_link h.decls.now h.places.now h.depths.now c.args.chain.now c.requires.settled c.args.place c.args.method.now c.entry_of-start.result c.requires.is c.requires.chained link
+    let link = entry_has _ c.entry_of-start.result (IsShallower h.decls.now h.depths.now c.args.place) c.entry_of-start.ensures (c.requires.shallower.each c.args.place c.args.method.now c.requires.is) in
+    start_of_shallower h.decls.now h.places.now h.depths.now c.args.chain.now c.requires.settled c.args.place c.args.method.now c.entry_of-start.result c.requires.is c.requires.chained link
 
 pub returns : goal.returns
 returns c = answered c.args.h.now.decls.now c.args.chain.now c.args.place c.args.method.now c.nearest.result c.requires.is c.requires.chained c.if-method.false c.nearest.ensures

@@ -1,4 +1,4 @@
-use Rattle.std.proofs.Common.{◌≡◌, ◌++◌, ◌∷◌, [], ℕ, List, take, ap, sym, ◌∙◌, arith}
+use Rattle.std.proofs.Common.{◌++◌, ◌∷◌, [], ℕ, List, take, ap, sym, ◌∙◌, arith}
 use Rattle.std.specs.Global.{Vec}
 use Rattle.vsd_terms.specs.Keys.{names_in}
 use Rattle.vsd_terms.proofs.PlaceLemmas.{take_more-map}
