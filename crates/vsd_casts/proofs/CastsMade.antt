@@ -9,6 +9,7 @@ use Rattle.vsd_table.specs.Seating.{view_of}
 use Rattle.vsd_trails.specs.declared.answers.CastAnswer.{CastAnswer}
 use Rattle.vsd_trails.specs.declared.answers.Unloaded.{Unloaded}
 use Rattle.vsd_trails.specs.declared.casting.Miss.{Miss}
+use Rattle.vsd_trails.specs.declared.casting.Find.{Find}
 use Rattle.vsd_trails.specs.declared.casting.Find.TheVariants as find
 use Rattle.vsd_trails.specs.declared.casting.Put.{Put}
 use Rattle.vsd_trails.specs.Programs.{TrailStep, Runs}
@@ -23,7 +24,10 @@ use Rattle.vsd_rows.specs.Makes.{steps_of, fields_of, Makes}
 use Rattle.vsd_rows.specs.Logged.{LogsOne}
 use Rattle.vsd_rows.specs.Leaving.{Goes}
 use Rattle.vsd_rows.proofs.Makes.{joined, then_makes, makes_none}
+use Rattle.vsd_ccache.specs.declared.finding.First.TheVariants as first
 use Rattle.vsd_ccache.specs.Looks.{WritesCasts}
+use Rattle.vsd_ccache.specs.Begun.{BeginsLook}
+use Rattle.vsd_casts.specs.Parts.{EndsLook}
 
 module _ (k : Key) (source target : Handle) where
   abbrev pub by_hit : Bool → Result CastAnswer Unloaded
@@ -32,14 +36,22 @@ module _ (k : Key) (source target : Handle) where
   abbrev pub by_walk : Bool → Result CastAnswer Unloaded
   by_walk given = Ok (record { yes = given; walked = true })
 
+  pub ends_hit : (given : Bool) (s : Seated) → Makes s s (casting_by k source target (find.Hit given)) (by_hit given)
+  unfolding casting_by
+  ends_hit given s = makes_none s (by_hit given)
+
   pub casts_hit : (given : Bool) (old new : Seated) → Makes old new (finding_cast source target) (find.Hit given) → Makes old new (casting k source target) (by_hit given)
   unfolding casting casting_by
   casts_hit given old new first = joined (casting_by k source target) first (makes_none new (by_hit given))
 
-  pub casts_miss : (m : Miss) (old one new : Seated) (a : Result CastAnswer Unloaded) → Makes old one (finding_cast source target) (find.Miss m) → Makes one new (casting_by k source target (find.Miss m)) a
-      → Makes old new (casting k source target) a
+  -- a look, and what follows on what it found
+  pub casts_found : (found : Find) (old one new : Seated) (a : Result CastAnswer Unloaded) → Makes old one (finding_cast source target) found → Makes one new (casting_by k source target found) a → Makes old new (casting k source target) a
   unfolding casting
-  casts_miss m old one new a first second = joined (casting_by k source target) first second
+  casts_found found old one new a first second = joined (casting_by k source target) first second
+
+  -- a first probe that missed, and the rest
+  pub casts_on : (region home version : ℕ) (old one new : Seated) (a : Result CastAnswer Unloaded) → BeginsLook old one source target (first.Miss region home version) → EndsLook one new k source target region home version a → Makes old new (casting k source target) a
+  casts_on region home version old one new a begins ends = casts_found ends.found old ends.now new a (begins ends.now ends.found ends.looks) ends.goes
 
   module _ (m : Miss) where
     pub walks_no_source : (u : Unloaded) (old one : Seated) → Makes old one (typing source) (Err u) → Makes old one (casting_by k source target (find.Miss m)) (Err u)

@@ -14,11 +14,12 @@ ghost use Rattle.vsd_rows.specs.Makes.{Makes};
 ghost use Rattle.vsd_rows.specs.Logged.{LogsOne};
 ghost use Rattle.vsd_rows.specs.Leaving.{Stays};
 ghost use Rattle.vsd_handles.specs.OwnRows.{IsSure};
-ghost use Rattle.vsd_ccache.specs.Looks.{IsMissOf};
+ghost use Rattle.vsd_ccache.specs.Looks.{IsMissOf, IsFirstMissOf};
 ghost use Rattle.vsd_ccache.specs.Tells.{Tells};
 ghost use Rattle.vsd_casts.specs.Answers.{AnswerTells};
+ghost use Rattle.vsd_casts.specs.Parts.{EndsLook};
 
-use vsd_ccache::{find, put};
+use vsd_ccache::{First, probe_first, probe_others, put};
 use vsd_handles::type_of;
 use vsd_rows::Hand;
 use vsd_table::{Resolver, Shared};
@@ -32,7 +33,7 @@ use vsd_words::Handle;
 /// `Unloaded` comes only where no row held the pair, and exactly where the source's word, which is loaded
 /// first, or else the target's, has another generation or is not live. It carries that handle, which the
 /// caller does not own and which is no host's, and its word.
-#[inline]
+#[inline(always)]
 pub fn cast<R: Resolver>(
     table: &Shared,
     resolver: &R,
@@ -60,7 +61,53 @@ pub fn cast<R: Resolver>(
     ensures stays { Stays (view_of hand.old.seated) (view_of hand.new.seated) }
     ensures seat { Belongs table.now hand.new.seated }
 {
-    match find(table, hand, source, target) {
+    match probe_first(table, hand, source, target) {
+        First::Hit(yes) => Ok(CastAnswer { yes, walked: false }),
+        // The answer is taken apart, so that only this arm has it in memory.
+        First::Miss {
+            region,
+            home,
+            version,
+        } => match look_on(table, resolver, hand, region, home, version, source, target) {
+            Ok(answer) => Ok(answer),
+            Err(unloaded) => Err(unloaded),
+        },
+    }
+}
+
+/// Answers a cast whose first probe missed. Most casts don't come here, and what it keeps on the stack would be cleared by
+/// each of them.
+#[inline(never)]
+fn look_on<R: Resolver>(
+    table: &Shared,
+    resolver: &R,
+    hand: &mut Hand,
+    region: u16,
+    home: u32,
+    first: u64,
+    source: Handle,
+    target: Handle,
+) -> Result<CastAnswer, Unloaded>
+    requires seat { Belongs table.now hand.old.seated }
+    requires types { (key_of table.now).world.types ≡ R.types resolver.now }
+    requires cmp { (key_of table.now).world.cmp ≡ R.cmp resolver.now }
+    requires source { HandleInRange source }
+    requires source_row { source.row < handle_rows (key_of table.now).sizes }
+    requires some_source { 0 < source.generation }
+    requires target { HandleInRange target }
+    requires target_row { target.row < handle_rows (key_of table.now).sizes }
+    requires some_target { 0 < target.generation }
+    requires begun { IsFirstMissOf (key_of table.now) source target region home }
+    ensures trail { EndsLook hand.old.seated hand.new.seated (key_of table.now) source target region home first result }
+    ensures complete { IsSure (view_of hand.old.seated) source → IsSure (view_of hand.old.seated) target → IsOk result }
+    ensures cause { IfErr result (λ u. ¬ IsSure (view_of hand.old.seated) u.handle) }
+    ensures evidence { IfOk result (λ a. HasCastEvidence (view_of hand.new.seated) source target a.yes) }
+    ensures world { IfOk result (λ a. (number other : ℕ) → Knows (view_of hand.new.seated).handles source number
+        → Knows (view_of hand.new.seated).handles target other → from_bool a.yes ≡ compatible (key_of table.now) number other) }
+    ensures stays { Stays (view_of hand.old.seated) (view_of hand.new.seated) }
+    ensures seat { Belongs table.now hand.new.seated }
+{
+    match probe_others(table, hand, region, home, first, source, target) {
         Find::Hit(yes) => Ok(CastAnswer { yes, walked: false }),
         Find::Miss(miss) => walk(table, resolver, hand, miss, source, target),
     }

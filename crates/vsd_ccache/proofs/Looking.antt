@@ -172,3 +172,17 @@ module _ (source target : Handle) where
   unfolding finding_cast
   finds old now new region home a step is rest =
       joined from_region (reads (λ (word : ℕ). word) (region_made old now source target region step)) (subst (λ (n : ℕ). Makes now new (probing source target region n 8 0 []) a) is rest)
+
+  -- the first probe is a hit
+  pub finds_hit : (old now new : Seated) (region home row : ℕ) (answer : Bool) → BecomesWith old now (after_region (view_of old) region) (Cast source target ∷ begun_of old) → home ≡ home_of source target (region_size region)
+      → row ≡ probe_row region home 0 → Makes now new (probing_row source target region row) (probe_hit answer) → Makes old new (finding_cast source target) (find.Hit answer)
+  finds_hit old now new region home row answer step is first probe =
+      finds old now new region home (find.Hit answer) step is
+      (probes_hit source target region home 7 0 [] now new answer (subst (λ (r : ℕ). Makes now new (probing_row source target region r) (probe_hit answer)) first probe))
+
+  -- it is none, and the other seven follow
+  pub finds_on : (old now one new : Seated) (region home row version : ℕ) (a : Find) → BecomesWith old now (after_region (view_of old) region) (Cast source target ∷ begun_of old) → home ≡ home_of source target (region_size region)
+      → row ≡ probe_row region home 0 → Makes now one (probing_row source target region row) (probe_miss version) → Makes one new (probing source target region home 7 1 (version ∷ [])) a → Makes old new (finding_cast source target) a
+  finds_on old now one new region home row version a step is first probe rest =
+      finds old now new region home a step is
+      (probes_on source target region home 7 0 [] now one new version a (subst (λ (r : ℕ). Makes now one (probing_row source target region r) (probe_miss version)) first probe) rest)

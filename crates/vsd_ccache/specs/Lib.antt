@@ -1,3 +1,4 @@
 -- What contracts of this crate cite.
 pub mod Looks
 pub mod Tells
+pub mod Begun

@@ -1,12 +1,12 @@
 //! The search for a pair.
-ghost use Rattle.std.specs.Prelude.{◌≡◌, ◌<◌, []};
+ghost use Rattle.std.specs.Prelude.{[], ◌∷◌};
 ghost use Rattle.vsd_words.specs.Handle.{HandleInRange};
-ghost use Rattle.vsd_words.specs.Hash.{home_of};
 ghost use Rattle.vsd_rule.specs.Evidence.{CastsAgree};
 ghost use Rattle.vsd_table.specs.Seating.{key_of, view_of, Belongs};
-ghost use Rattle.vsd_trails.specs.CastTrails.{region_size, probing, finding_cast};
+ghost use Rattle.vsd_trails.specs.CastTrails.{probing, finding_cast};
 ghost use Rattle.vsd_rows.specs.Makes.{Makes};
-ghost use Rattle.vsd_ccache.specs.Looks.{LooksAtCasts, FoundFor};
+ghost use Rattle.vsd_ccache.specs.Looks.{LooksAtCasts, FoundFor, IsFirstMissOf, FirstFoundFor};
+ghost use Rattle.vsd_ccache.specs.Begun.{BeginsLook};
 ghost use Rattle.vsd_ccache.specs.Tells.{Tells, FindTells};
 
 use crate::probing::{RowLook, probe};
@@ -16,13 +16,26 @@ use vsd_table::Shared;
 use vsd_trails::{Find, Miss};
 use vsd_words::{Handle, home_of};
 
+/// What the first probe of a look finds.
+#[derive(Clone, Copy, PartialEq, Eq, Debug)]
+pub enum First {
+    /// The pair, with its answer.
+    Hit(bool),
+    /// Another pair, or a row that was written meanwhile or never: with the region that was loaded, the pair's home in it,
+    /// and the version that the probe loaded first.
+    Miss {
+        region: u16,
+        home: u32,
+        version: u64,
+    },
+}
+
 /// Looks the pair up: loads the region in use, and probes eight rows of it from the pair's home on, until
 /// one is a hit. A probe is a hit exactly where both loads of its row's version found the same, which is
 /// even and not 0, and the row's source and target are the pair's.
 ///
 /// `Hit` has the answer, of which the caller then has evidence. `Miss` comes only where no probe was a
 /// hit; it has the region, the row of the first probe, and the version that each probe loaded first.
-#[inline]
 pub fn find(table: &Shared, hand: &mut Hand, source: Handle, target: Handle) -> Find
     requires seat { Belongs table.now hand.old.seated }
     requires source { HandleInRange source }
@@ -34,32 +47,65 @@ pub fn find(table: &Shared, hand: &mut Hand, source: Handle, target: Handle) -> 
     ensures agree { CastsAgree (view_of hand.new.seated) }
     ensures seat { Belongs table.now hand.new.seated }
 {
-    let region = hand.seated.region(table, source, target);
-    let home = home_of(source, target, region_size(region));
-    probe_rows(table, hand, region, home, source, target)
+    match probe_first(table, hand, source, target) {
+        First::Hit(yes) => Find::Hit(yes),
+        First::Miss {
+            region,
+            home,
+            version,
+        } => probe_others(table, hand, region, home, version, source, target),
+    }
 }
 
-/// Probes eight rows of the region, until one is a hit.
+/// Begins a look: loads the region in use, and probes the row at the pair's home. Most casts end here, so it is a function
+/// of its own, which makes no list of versions.
 #[inline]
-fn probe_rows(
+pub fn probe_first(table: &Shared, hand: &mut Hand, source: Handle, target: Handle) -> First
+    requires seat { Belongs table.now hand.old.seated }
+    requires source { HandleInRange source }
+    requires target { HandleInRange target }
+    ensures begins { BeginsLook hand.old.seated hand.new.seated source target result }
+    ensures changes { LooksAtCasts (view_of hand.old.seated) (view_of hand.new.seated) }
+    ensures found { FirstFoundFor (key_of table.now) (view_of hand.new.seated) source target result }
+    ensures agree { CastsAgree (view_of hand.new.seated) }
+    ensures seat { Belongs table.now hand.new.seated }
+{
+    let region = hand.seated.region(table, source, target);
+    let home = home_of(source, target, region_size(region));
+    let row = probe_row(region, home, 0);
+    match probe(table, hand, region, row, source, target) {
+        RowLook::Hit(yes) => First::Hit(yes),
+        RowLook::Miss(version) => First::Miss {
+            region,
+            home,
+            version,
+        },
+    }
+}
+
+/// Ends a look whose first probe missed: probes the other seven rows of the region, until one is a hit. `first` is the
+/// version that the first probe loaded first.
+pub fn probe_others(
     table: &Shared,
     hand: &mut Hand,
     region: u16,
     home: u32,
+    first: u64,
     source: Handle,
     target: Handle,
 ) -> Find
     requires seat { Belongs table.now hand.old.seated }
-    requires region { region < (key_of table.now).sizes.regions }
-    requires home { home ≡ home_of source target (region_size region) }
-    ensures trail { Makes hand.old.seated hand.new.seated (probing source target region home 8 0 []) result }
+    requires source { HandleInRange source }
+    requires target { HandleInRange target }
+    requires begun { IsFirstMissOf (key_of table.now) source target region home }
+    ensures trail { Makes hand.old.seated hand.new.seated (probing source target region home 7 1 (first ∷ [])) result }
     ensures changes { LooksAtCasts (view_of hand.old.seated) (view_of hand.new.seated) }
     ensures found { FoundFor (key_of table.now) (view_of hand.new.seated) source target result }
     ensures agree { CastsAgree (view_of hand.new.seated) }
     ensures seat { Belongs table.now hand.new.seated }
 {
-    let mut versions = [0; 8];
-    for i in 0..8 {
+    let mut versions = [first; 8];
+    for i in 1..8 {
         let row = probe_row(region, home, i);
         match probe(table, hand, region, row, source, target) {
             RowLook::Hit(yes) => return Find::Hit(yes),

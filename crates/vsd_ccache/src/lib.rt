@@ -23,6 +23,7 @@
 //!   find   load the region; of each of the eight rows load the version, the source, the cast word, and the version again
 //!            both versions are equal, even and not 0, and the row has the pair -> Hit(answer)
 //!            no row was so                                                     -> Miss(region, home, the versions loaded first)
+//!            probe_first and probe_others are its two halves: the first row, and the other seven
 //!   put    a version was 0          -> the first such row
 //!          none was, a next region  -> one exchange of the region to it      won: Grew         lost: Grow(region found)
 //!          none was, no next region -> the row at (source + target) mod 8
@@ -44,6 +45,6 @@ mod probing;
 mod putting;
 mod regions;
 
-pub use finding::find;
+pub use finding::{First, find, probe_first, probe_others};
 pub use putting::put;
 pub use vsd_trails::{Find, Lost, Miss, Put};

@@ -26,6 +26,7 @@ impl<R: Resolver> Runtime<R> {
     /// `Unloaded` comes only where the handle is neither a host's nor one that the caller owns, neither the
     /// site's cell nor the pair's bucket held it, and its handle word, carried in the error, has another
     /// generation or isn't live. The caller is then as it was, but for its steps and its log.
+    #[inline]
     pub fn call(&self, who: &mut Caller, site: u16, h: Handle) -> Result<Answer, Unloaded>
         requires caller { IsCallerOf self.now who.old }
         requires site { site < (fixed_in self.now).sizes.sites }
@@ -45,7 +46,9 @@ impl<R: Resolver> Runtime<R> {
         let token = self.token(site);
         vsd_calls::call(&self.table, &self.resolver, &mut who.hand, site, token, h)
     }
+
     /// The token of a call site.
+    #[inline]
     fn token(&self, site: u16) -> u16
         requires { site < (fixed_in self.now).sizes.sites }
         ensures token { result ≡ site_token (fixed_in self.now) site }

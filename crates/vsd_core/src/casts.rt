@@ -28,6 +28,7 @@ impl<R: Resolver> Runtime<R> {
     /// `Unloaded` comes only where no row held the pair, and a handle that is neither a host's nor one that the
     /// caller owns has a word, carried in the error, of another generation or that isn't live. The source's word
     /// is loaded first. The caller is then as it was, but for its steps and its log.
+    #[inline(always)]
     pub fn cast(
         &self,
         who: &mut Caller,

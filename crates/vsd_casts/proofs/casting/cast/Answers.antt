@@ -1,34 +1,52 @@
-use Rattle.std.proofs.Common.{◌≡◌, subst}
+use Rattle.std.proofs.Common.{◌≡◌, Ok, Err, subst}
 use Rattle.vsd_rule.specs.declared.key.Key.{Key}
 use Rattle.vsd_rule.specs.Lists.{compatible}
 use Rattle.std.specs.Int.{from_bool}
 use Rattle.vsd_table.specs.Seating.{key_of}
-use Rattle.vsd_casts.proofs.CastsMade.{casts_hit, casts_miss, logs_cast}
+use Rattle.vsd_casts.proofs.CastsMade.{casts_hit, casts_on, logs_cast}
 use Rattle.vsd_casts.proofs.Endings.{cast_shown}
 use Rattle.vsd_casts.proofs.casting.cast.Goals as goal
 
 pub returns-in-Hit-clause-trail : goal.returns-in-Hit-clause-trail
-returns-in-Hit-clause-trail g c = casts_hit (key_of c.args.table.now) c.args.source c.args.target c.in-Hit.yes _ _ c.in-Hit.ensures.trail
+returns-in-Hit-clause-trail g c = casts_hit (key_of c.args.table.now) c.args.source c.args.target c.in-Hit.yes _ _ c.in-Hit.ensures.begins
 
 pub returns-in-Hit-clause-logged : goal.returns-in-Hit-clause-logged
 returns-in-Hit-clause-logged g c =
     logs_cast (key_of c.args.table.now) c.args.source c.args.target _ _ _ c.requires.seat.key
-    (casts_hit (key_of c.args.table.now) c.args.source c.args.target c.in-Hit.yes _ _ c.in-Hit.ensures.trail)
+    (casts_hit (key_of c.args.table.now) c.args.source c.args.target c.in-Hit.yes _ _ c.in-Hit.ensures.begins)
+
+pub returns-in-Hit-clause-tells : goal.returns-in-Hit-clause-tells
+returns-in-Hit-clause-tells g c =
+    cast_shown (key_of c.args.table.now) c.args.source c.args.target _ _ _ c.requires.seat.key
+    (casts_hit (key_of c.args.table.now) c.args.source c.args.target c.in-Hit.yes _ _ c.in-Hit.ensures.begins)
 
 pub returns-in-Hit-clause-world : goal.returns-in-Hit-clause-world
 returns-in-Hit-clause-world g c = λ number other knows knows'.
-    subst (λ (k : Key). from_bool c.in-Hit.yes ≡ compatible k number other) c.find.ensures.seat.key
-    (c.find.ensures.agree c.args.source c.args.target c.in-Hit.yes number other c.in-Hit.ensures.found knows knows')
+    subst (λ (k : Key). from_bool c.in-Hit.yes ≡ compatible k number other) c.probe_first.ensures.seat.key
+    (c.probe_first.ensures.agree c.args.source c.args.target c.in-Hit.yes number other c.in-Hit.ensures.found knows knows')
 
-pub returns-in-Miss-clause-trail : goal.returns-in-Miss-clause-trail
-returns-in-Miss-clause-trail g c = casts_miss (key_of c.args.table.now) c.args.source c.args.target c.in-Miss.miss _ _ _ c.walk.result c.in-Miss.ensures.trail c.walk.ensures.trail
+pub returns-in-Ok-clause-trail : goal.returns-in-Ok-clause-trail
+returns-in-Ok-clause-trail g c = casts_on (key_of c.args.table.now) c.args.source c.args.target c.in-Miss.region c.in-Miss.home c.in-Miss.version _ _ _ (Ok c.in-Ok.answer) c.in-Miss.ensures.begins c.in-Ok.ensures.trail
 
-pub returns-in-Miss-clause-logged : goal.returns-in-Miss-clause-logged
-returns-in-Miss-clause-logged g c =
-    logs_cast (key_of c.args.table.now) c.args.source c.args.target _ _ c.walk.result c.requires.seat.key
-    (casts_miss (key_of c.args.table.now) c.args.source c.args.target c.in-Miss.miss _ _ _ c.walk.result c.in-Miss.ensures.trail c.walk.ensures.trail)
+pub returns-in-Ok-clause-logged : goal.returns-in-Ok-clause-logged
+returns-in-Ok-clause-logged g c =
+    logs_cast (key_of c.args.table.now) c.args.source c.args.target _ _ (Ok c.in-Ok.answer) c.requires.seat.key
+    (casts_on (key_of c.args.table.now) c.args.source c.args.target c.in-Miss.region c.in-Miss.home c.in-Miss.version _ _ _ (Ok c.in-Ok.answer) c.in-Miss.ensures.begins c.in-Ok.ensures.trail)
 
-pub returns-in-Miss-clause-tells : goal.returns-in-Miss-clause-tells
-returns-in-Miss-clause-tells g c =
-    cast_shown (key_of c.args.table.now) c.args.source c.args.target _ _ c.walk.result c.requires.seat.key
-    (casts_miss (key_of c.args.table.now) c.args.source c.args.target c.in-Miss.miss _ _ _ c.walk.result c.in-Miss.ensures.trail c.walk.ensures.trail)
+pub returns-in-Ok-clause-tells : goal.returns-in-Ok-clause-tells
+returns-in-Ok-clause-tells g c =
+    cast_shown (key_of c.args.table.now) c.args.source c.args.target _ _ (Ok c.in-Ok.answer) c.requires.seat.key
+    (casts_on (key_of c.args.table.now) c.args.source c.args.target c.in-Miss.region c.in-Miss.home c.in-Miss.version _ _ _ (Ok c.in-Ok.answer) c.in-Miss.ensures.begins c.in-Ok.ensures.trail)
+
+pub returns-in-Err-clause-trail : goal.returns-in-Err-clause-trail
+returns-in-Err-clause-trail g c = casts_on (key_of c.args.table.now) c.args.source c.args.target c.in-Miss.region c.in-Miss.home c.in-Miss.version _ _ _ (Err c.in-Err.unloaded) c.in-Miss.ensures.begins c.in-Err.ensures.trail
+
+pub returns-in-Err-clause-logged : goal.returns-in-Err-clause-logged
+returns-in-Err-clause-logged g c =
+    logs_cast (key_of c.args.table.now) c.args.source c.args.target _ _ (Err c.in-Err.unloaded) c.requires.seat.key
+    (casts_on (key_of c.args.table.now) c.args.source c.args.target c.in-Miss.region c.in-Miss.home c.in-Miss.version _ _ _ (Err c.in-Err.unloaded) c.in-Miss.ensures.begins c.in-Err.ensures.trail)
+
+pub returns-in-Err-clause-tells : goal.returns-in-Err-clause-tells
+returns-in-Err-clause-tells g c =
+    cast_shown (key_of c.args.table.now) c.args.source c.args.target _ _ (Err c.in-Err.unloaded) c.requires.seat.key
+    (casts_on (key_of c.args.table.now) c.args.source c.args.target c.in-Miss.region c.in-Miss.home c.in-Miss.version _ _ _ (Err c.in-Err.unloaded) c.in-Miss.ensures.begins c.in-Err.ensures.trail)

@@ -11,10 +11,10 @@ use Rattle.vsd_ccache.specs.Looks.{probed_of}
 use Rattle.vsd_ccache.proofs.Sizes.{home_in}
 use Rattle.vsd_ccache.proofs.CastStepsMade.{looks_on}
 use Rattle.vsd_ccache.proofs.Looking.{probes_hit, probes_on, probes_end}
-use Rattle.vsd_ccache.proofs.finding.probe_rows.Goals as goal
+use Rattle.vsd_ccache.proofs.finding.probe_others.Goals as goal
 
 pub probe_row-row-requires-clause-home : goal.probe_row-row-requires-clause-home
-probe_row-row-requires-clause-home c = home_in c.args.source c.args.target c.args.region c.args.home c.requires.home
+probe_row-row-requires-clause-home c = home_in c.args.source c.args.target c.args.region c.args.home c.requires.begun.at_home
 
 pub returns-in-Hit-clause-trail : goal.returns-in-Hit-clause-trail
 returns-in-Hit-clause-trail c =
@@ -41,6 +41,7 @@ loop-i-preserved c =
     let first = subst (λ (row : ℕ). Makes old now (probing_row c.args.source c.args.target c.args.region row) (probed_of c.probe.result)) c.probe_row-row.ensures.row c.probe.ensures.trail in
     let missed = answers (ap probed_of c.in-Miss.is) first in
     record {
+      begun = omega (arith, inv.begun);
       seat = c.probe.ensures.seat;
       eight = length-set versions i version ∙ eight;
       leads = λ rest sum new a makes. inv.leads (suc rest) (omega arith) new a

@@ -1,10 +1,10 @@
-use Rattle.std.proofs.Common.{◌≡◌, ◌+◌, ◌<◌, ℕ, [], length, take}
+use Rattle.std.proofs.Common.{◌≡◌, ◌+◌, ◌<◌, ◌≤◌, ℕ, [], ◌∷◌, length, take}
 use Rattle.vsd_rule.specs.Evidence.{CastsAgree}
 use Rattle.vsd_table.specs.Seating.{view_of, Belongs}
 use Rattle.vsd_trails.specs.CastTrails.{probing}
 use Rattle.vsd_rows.specs.Makes.{Leads}
 use Rattle.vsd_ccache.specs.Looks.{LooksAtCasts}
-use Rattle.vsd_ccache.proofs.finding.probe_rows.Given as goal
+use Rattle.vsd_ccache.proofs.finding.probe_others.Given as goal
 
 -- the rows before were no hits, with these versions, and the rest of the look is to come
 abbrev pub invariant-loop-i : goal.invariant-loop-i
@@ -13,8 +13,9 @@ invariant-loop-i l =
     let w = view_of l.hand.seated in
     record {
       seat : Belongs l.table l.hand.seated;
+      begun : 1 ≤ l.i;
       eight : length l.versions ≡ 8;
-      leads : (rest : ℕ) → l.i + rest ≡ 8 → Leads l.initial.hand.seated (probing l.source l.target l.region l.home 8 0 []) l.hand.seated (probing l.source l.target l.region l.home rest l.i (take l.i l.versions));
+      leads : (rest : ℕ) → l.i + rest ≡ 8 → Leads l.initial.hand.seated (probing l.source l.target l.region l.home 7 1 (l.first ∷ [])) l.hand.seated (probing l.source l.target l.region l.home rest l.i (take l.i l.versions));
       changes : LooksAtCasts v w;
-      agree : 0 < l.i → CastsAgree w;
+      agree : 1 < l.i → CastsAgree w;
     }
