@@ -1,0 +1,7 @@
+-- Lemmas that several proofs of this crate share.
+pub mod BodyLaws
+pub mod MatchLaws
+pub mod FoundLaws
+pub mod FillLaws
+pub mod BitLaws
+pub mod SelectLaws
