@@ -20,6 +20,6 @@ returns c =
     let count : c.namesakes.result ≡ namesakes methods m.name place = c.namesakes.ensures.count ∙ ap (λ (l : List Method). namesakes l c.as_slice-name.result.now place) list ∙ ap (λ (n : List ℕ). namesakes methods n place) name in
     let end : c.as_slice.result.now ≡ mark (namesakes methods m.name place) = c.as_slice.ensures.value ∙ c.in_ok-mark.ensures ∙ ap mark count in
     c.in_ok-extend_from_slice.ensures.items
-    ∙ ap (λ (l : List ℕ). l ++ c.as_slice.result.now) (c.in_ok-text.ensures ∙ name)
+    ∙ ap (λ (l : List ℕ). l ++ c.as_slice.result.now) (c.in_ok-text.ensures.items ∙ name)
     ∙ ap (λ (l : List ℕ). m.name ++ l) end
     ∙ ap (λ o. name_at methods place o) (sym found)

@@ -1,4 +1,4 @@
-use Rattle.std.proofs.Common.{◌≡◌, ◌≤◌, List, ℕ, length, sym, ap, ◌∙◌, subst, arith}
+use Rattle.std.proofs.Common.{◌≡◌, ◌≤◌, IfOk, List, ℕ, length, sym, ap, ◌∙◌, subst}
 use Rattle.vsd_terms.specs.declared.term.Term.{Term}
 use Rattle.vsd_terms.specs.Text.{names_of, text_of}
 use Rattle.vsd_ast.specs.declared.declarations.Decls.{Decls}
@@ -24,4 +24,5 @@ returns c =
     let T = type_at s.types c.args.t in
     let d = c.decls.result.now in
     let same : d ≡ s.decls = c.decls.ensures.decls ∙ sym c.requires.together in
-    ?
+    let text : text_of d.names c.term.result.now ≡ text_of s.decls.names T = ap (λ (x : Decls). text_of x.names c.term.result.now) same ∙ ap (text_of s.decls.names) c.term.ensures in
+    subst (λ (w : List ℕ). IfOk c.print.result (λ text. text.items ≡ w)) text c.print.ensures
