@@ -75,25 +75,18 @@ module _ (ds : List Decl) where
 
   -- where neither a type nor one above it declares a method with this root, none of them does
   pub none-upward : {root : Place} {t u : Term} → HasNoBody ds root t → IsUpward ds t u → (m : ℕ) → HasRoot ds root u m → ⊥
-  none-upward {root} (top none no) (itself same) m has = none m (subst (λ v. HasRoot ds root v m) same has)
-  none-upward (top none no) (above b is up) m has = absurd cc
+  none-upward {root} (top none top_is) (itself same) m has = none m (subst (λ v. HasRoot ds root v m) same has)
+  none-upward (top none top_is) (above b is up) m has = absurd cc
   none-upward {root} (further c none at rest) (itself same) m has = none m (subst (λ v. HasRoot ds root v m) same has)
   none-upward {root} {t} {u} (further c none at rest) (above b is up) m has =
       let same : b ≡ c = same_some (sym is ∙ at) in
       none-upward rest (subst (λ v. IsUpward ds v u) same up) m has
 
+  further_up : (t : Term) (k : Level) (levels : List Level) (n : ℕ) (l : Level) → slice_get (k ∷ levels) (suc n) ≡ Some l → IsLineage ds (Some t) (k ∷ levels) → ((b : Term) → IsLineage ds (Some b) levels → slice_get levels n ≡ Some l → IsUpward ds t l.type) → IsUpward ds t l.type
+  further_up t k levels n l at is next = ?
+
   -- what a lineage lists stands upward
   pub lineage-upward : (t : Term) (levels : List Level) → IsLineage ds (Some t) levels → (n : ℕ) (l : Level) → slice_get levels n ≡ Some l → IsUpward ds t l.type
   lineage-upward t [] is n l at = absurd is
   lineage-upward t (k ∷ levels) is zero l at = let same : k ≡ l = cc in itself (ap (λ (x : Level). x.type) (sym same) ∙ is.0)
-  lineage-upward t (k ∷ levels) is (suc n) l at = by (base_of ds t) refl is.2
-    where
-      by : (o : Option Term) → base_of ds t ≡ o → IsLineage ds o levels → IsUpward ds t l.type
-      by None none up = absurd ?
-      by (Some b) some up = above b some (lineage-upward b levels up n l ?)
-
--- ---- one body
-
-module _ (ds : List Decl) where
-  pub last-only : {root : Place} {t : Term} {m n : ℕ} → IsLast ds root t m → IsLast ds root t n → m ≡ n
-  last-only {root} {t} {m} {n} a b = omega (arith, b.last m a.rooted, a.last n b.rooted)
+  lineage-upward t (k ∷ levels) is (suc n) l at = further_up t k levels n l at is (λ b up inside. lineage-upward b levels up n l inside)

@@ -74,11 +74,12 @@ module _ (ds : List Decl) (names : ℕ) (well : All (IsDeclaration names) ds) wh
 
   first-inside : (i t : Term) (m : ℕ) (x : Decl) (p : ℕ) → declaration_of ds t ≡ Some x → (os : List Override) → All (IsOverride names (length x.params) (length x.methods)) os → first_given (gives ds i m t) os ≡ Some p → p < length x.methods
   first-inside i t m x p at [] all is = absurd cc
-  first-inside i t m x p at (o ∷ os) all is = by (gives ds i m t o) refl is
+  first-inside i t m x p at (o ∷ os) all is =
+      by (gives ds i m t o) refl is (first-inside i t m x p at os (All-tail (IsOverride names (length x.params) (length x.methods)) o os all))
     where
-      by : (g : Option ℕ) → gives ds i m t o ≡ g → option_or g (first_given (gives ds i m t) os) ≡ Some p → p < length x.methods
-      by None one e = first-inside i t m x p at os (All-tail (IsOverride names (length x.params) (length x.methods)) o os all) e
-      by (Some q) one e = gives-inside i t m x o p at (All-head (IsOverride names (length x.params) (length x.methods)) o os all) (one ∙ e)
+      by : (g : Option ℕ) → gives ds i m t o ≡ g → option_or g (first_given (gives ds i m t) os) ≡ Some p → (first_given (gives ds i m t) os ≡ Some p → p < length x.methods) → p < length x.methods
+      by None one e rest = rest e
+      by (Some q) one e rest = gives-inside i t m x o p at (All-head (IsOverride names (length x.params) (length x.methods)) o os all) (one ∙ e)
 
   -- a declared type's declaration is well formed
   declared-well : (h : Head) (x : Decl) → declaration_of_head ds h ≡ Some x → IsDeclaration names x

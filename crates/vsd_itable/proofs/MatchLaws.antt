@@ -6,6 +6,7 @@ use Rattle.std.proofs.lemmas.Bool.{cases_lt}
 use Rattle.std.proofs.lemmas.List.{length-map}
 use Rattle.std.proofs.lemmas.Option.{slice_get-get_or, slice_get-map, slice_get_within}
 use Rattle.vsd_terms.specs.declared.term.Term.{Term}
+use Rattle.vsd_ast.specs.declared.declarations.Decl.{Decl}
 use Rattle.vsd_types.specs.Numbers.{IsDistinct}
 use Rattle.vsd_types.specs.TypeList.{TypeList}
 use Rattle.vsd_types.specs.Types.{object, type_at}
@@ -17,13 +18,13 @@ use Rattle.vsd_itable.specs.Places.{IsFirstPlace, IsMatchPlace, IsPlaceOf, Suits
 same_some : {A : Type 0} {x y : A} → Some x ≡ Some y → x ≡ y
 same_some e = cc
 
--- the type at a place of a list of numbers
-pub type_in : List Term → List ℕ → ℕ → Term
-type_in types ns p = type_at types (get_or ns p 0)
-
 module _ (c : TypeList) (distinct : IsDistinct c.types) (ns : List ℕ) (j : ℕ) (within : All (λ i. i < length c.types) ns) (j_in : j < length c.types) where
-  abbrev Ds = c.decls.list
-  abbrev J = type_at c.types j
+  abbrev Ds : List Decl
+  Ds = c.decls.list
+
+  abbrev Wanted : Term
+  Wanted = type_at c.types j
+
   abbrev here : ℕ → Term
   here p = type_at c.types (get_or ns p 0)
 
@@ -46,29 +47,29 @@ module _ (c : TypeList) (distinct : IsDistinct c.types) (ns : List ℕ) (j : ℕ
       let at = slice_get-get_or (types_of c.types ns) p (here p) long in
       (p, long, same_some (sym at ∙ stands p less))
 
-  absent : IsPlaceOf ns j None → Contains (types_of c.types ns) J → ⊥
+  absent : IsPlaceOf ns j None → Contains (types_of c.types ns) Wanted → ⊥
   absent none has =
-      let at = contained J has in
+      let at = contained Wanted has in
       none at.0 at.1 (same_number c.types distinct (get_or ns at.0 0) j (within at.0 0 at.1) j_in at.2)
 
-  first-place : (p : ℕ) → IsFirstPlace c ns j (Some p) → (q : ℕ) (u : Term) → slice_get (types_of c.types ns) q ≡ Some u → Suits Ds J u → p ≤ q
+  first-place : (p : ℕ) → IsFirstPlace c ns j (Some p) → (q : ℕ) (u : Term) → slice_get (types_of c.types ns) q ≡ Some u → Suits Ds Wanted u → p ≤ q
   first-place p first q u is suits =
       let at = stands-back q u is in
       elim (cases_lt q p) [
-        | inl low ↦ absurd (first.2 q low (subst (Suits Ds J) (sym at.1) suits))
+        | inl low ↦ absurd (first.2 q low (subst (Suits Ds Wanted) (sym at.1) suits))
         | inr high ↦ high
       ]
 
-  pub matched : (found : Option ℕ) → IsMatchPlace c ns j found → IsMatchAmong Ds J (types_of c.types ns) (option_map here found)
+  pub matched : (found : Option ℕ) → IsMatchPlace c ns j found → IsMatchAmong Ds Wanted (types_of c.types ns) (option_map here found)
   matched None is =
       elim is [
         | inl some ↦ absurd (some.0 refl)
-        | inr none ↦ (absent none.0, λ i has suits. let at = contained i has in none.1 at.0 at.1 (subst (Suits Ds J) (sym at.2) suits))
+        | inr none ↦ (absent none.0, λ i has suits. let at = contained i has in none.1 at.0 at.1 (subst (Suits Ds Wanted) (sym at.2) suits))
       ]
   matched (Some p) is =
       elim is [
         | inl exact ↦ (
-            let same : here p ≡ J = ap (type_at c.types) exact.1.1 in
+            let same : here p ≡ Wanted = ap (type_at c.types) exact.1.1 in
             inl (subst (Contains (types_of c.types ns)) same (contains p exact.1.0), same)
             )
         | inr variant ↦ inr (

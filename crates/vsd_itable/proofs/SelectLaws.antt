@@ -1,7 +1,10 @@
 -- What is selected is one method, of the type or one above it.
 use Rattle.std.proofs.Common.{◌≡◌, ℕ, ◌<◌, ◌≤◌, inl, inr, Contains, List, Option, Some, None, refl, sym, ap, ◌∙◌, subst, arith}
+use Rattle.std.specs.List.{slice_get}
+use Rattle.std.proofs.lemmas.Option.{get_or_from_slice_get, slice_get_within}
 use Rattle.vsd_terms.specs.declared.term.Term.{Term}
 use Rattle.vsd_ast.specs.declared.declarations.Decl.{Decl}
+use Rattle.vsd_roots.specs.Slots.{IsRoot}
 use Rattle.vsd_roots.specs.declared.place.Place.{Place}
 use Rattle.vsd_roots.proofs.RootLaws.{root_only}
 use Rattle.vsd_slots.specs.Implementation.{Found}
@@ -26,7 +29,7 @@ module _ (ds : List Decl) where
   among-only j interfaces None (Some b) one other =
       elim other [
         | inl exact ↦ absurd (one.0 exact.0)
-        | inr first ↦ absurd (one.1 b (stands_in interfaces first.1.place b first.1.stands) first.1.suits)
+        | inr first ↦ absurd (one.1 b (first.1.place, slice_get_within interfaces first.1.place b first.1.stands, get_or_from_slice_get interfaces first.1.place b b first.1.stands) first.1.suits)
       ]
   among-only j interfaces (Some a) None one other = sym (among-only j interfaces None (Some a) other one)
   among-only j interfaces (Some a) (Some b) one other =
@@ -47,14 +50,14 @@ module _ (ds : List Decl) where
       among-only j other.interfaces a b (subst (λ l. IsMatchAmong ds j l a) same one.among) other.among
 
   found_same : (a b : Found) → a.class ≡ b.class → a.method ≡ b.method → a ≡ b
-  found_same a b c m = cc
+  found_same a b c m = ap (λ (t : Term). record { class = t; method = a.method }) c ∙ ap (λ (n : ℕ). record { class = b.class; method = n }) m
 
   body-only : {root : Place} {t : Term} {a b : Found} → IsBody ds root t a → IsBody ds root t b → a ≡ b
   body-only {root} {t} {a} {b} (declared is last) (declared other end) =
       found_same a b (is ∙ sym other) (omega (arith, last.last b.method end.rooted, end.last a.method last.rooted))
   body-only {root} {t} {a} {b} (declared is last) (inherited c none at rest) = absurd (none a.method last.rooted)
   body-only {root} {t} {a} {b} (inherited c none at rest) (declared is last) = absurd (none b.method last.rooted)
-  body-only {root} {t} {a} {b} (inherited c none at rest) (inherited d no is body) =
+  body-only {root} {t} {a} {b} (inherited c none at rest) (inherited d nothing is body) =
       let same : c ≡ d = same_some (sym at ∙ is) in
       body-only (subst (λ u. IsBody ds root u a) same rest) body
 

@@ -3,6 +3,7 @@ pub mod Matching
 pub mod Bodies
 pub mod Selection
 pub mod Value
+pub mod BitList
 pub mod Tables
 pub mod Refusals
 pub mod Places

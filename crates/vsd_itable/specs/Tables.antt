@@ -1,17 +1,16 @@
 -- What tables say of types, tokens and methods, by their numbers.
-use Rattle.std.specs.Prelude.{◌≡◌, ℕ, zero, suc, ◌+◌, ◌*◌, ◌/◌, ◌%◌, ◌<◌, ◌↔◌, All, List, map, length, Option, Some, None, slice_index, slice_index_or}
-use Rattle.std.specs.Int.{bit_at}
-use Rattle.std.specs.List.{range_with_len}
+use Rattle.std.specs.Prelude.{◌≡◌, ℕ, zero, suc, ◌+◌, ◌*◌, ◌<◌, ◌↔◌, All, List, length, Option, Some, None, slice_index_or}
 use Rattle.vsd_terms.specs.declared.term.Term.{Term}
 use Rattle.vsd_rule.specs.Lists.{entry}
 use Rattle.vsd_types.specs.TypeList.{TypeList}
 use Rattle.vsd_types.specs.Types.{type_at}
 use Rattle.vsd_compat.specs.Compatibility.{IsCompatible}
-use Rattle.vsd_compat.specs.Matrices.{Bits, bits_of}
+use Rattle.vsd_compat.specs.Matrices.{bits_of}
 use Rattle.vsd_slots.specs.Implementation.{Found}
 use Rattle.vsd_slots.specs.Refusals.{method_count}
 use Rattle.vsd_slots.specs.Texts.{method_text}
 use Rattle.vsd_slots.specs.declared.entries.ClosedMethod.{ClosedMethod}
+use Rattle.vsd_itable.specs.BitList.{bits_list}
 use Rattle.vsd_itable.specs.Selection.{IsSelection}
 use Rattle.vsd_itable.specs.Value.{Value}
 use Rattle.vsd_itable.specs.declared.target.Target.{Target}
@@ -50,18 +49,6 @@ module _ (c : TypeList) (methods : List ClosedMethod) (t j : Term) (m : ℕ) whe
 abbrev pub number_of : Target → ℕ
 number_of (Method n) = n + 1
 number_of Missing = 0
-
--- ---- compatibility as a list of numbers
-
--- the bit of the i-th pair of so many types, where pairs are ordered by their first type and then by their second
-abbrev pub bit_of : Bits → ℕ → ℕ → ℕ
-bit_of b t u = bit_at (slice_index b.words (t * b.width + u / 64)) (u % 64)
-
-abbrev pub pair_bit : ℕ → Bits → ℕ → ℕ
-pair_bit count b i = bit_of b (i / count) (i % count)
-
-abbrev pub bits_list : ℕ → Bits → List ℕ
-bits_list count b = map (pair_bit count b) (range_with_len 0 (count * count))
 
 -- ---- of tables
 

@@ -1,26 +1,37 @@
 //! What the slot of a method holds in a closed class.
-ghost use Rattle.std.specs.Prelude.{◌≡◌, ◌<◌, ◌≤◌, Some, length, slice_get};
+ghost use Rattle.std.specs.Prelude.{◌≡◌, ◌<◌, ◌≤◌, ◌↔◌, IsTrue, Some, length, slice_get};
 ghost use Rattle.vsd_ast.specs.declared.declarations.Decl.{Decl};
+ghost use Rattle.vsd_ast.specs.declared.declarations.Method.{Method};
 ghost use Rattle.vsd_check.specs.Checked.{decls_of};
+ghost use Rattle.vsd_roots.specs.Methods.{IsMethod};
+ghost use Rattle.vsd_roots.specs.Slots.{IsRoot};
 ghost use Rattle.vsd_itable.specs.Places.{IsBodyAt, IsLastWith, IsOwnBody};
 
 use vsd_check::Checked;
 use vsd_slots::{ClosedMethod, count_methods};
 use vsd_types::Closed;
 
+// Whether a method has a root.
+fn has_root(checked: &Checked, decl: u16, method: u16, root: (u16, u16)) -> bool
+    requires { (m : Method) × IsMethod (decls_of checked.now).list (record { decl = decl; method = method }) m }
+    ensures { IsTrue result ↔ IsRoot (decls_of checked.now).list (record { decl = decl; method = method }) (record { decl = root.0; method = root.1 }) }
+{
+    let at = checked.root(decl, method);
+    at.0 == root.0 && at.1 == root.1
+}
+
 // The last method of a declaration, of its first ones, that has a root.
 fn last_with_root(checked: &Checked, decl: u16, count: u16, root: (u16, u16)) -> Option<u16>
     requires { (x : Decl) × (slice_get (decls_of checked.now).list decl ≡ Some x) × (count ≤ length x.methods) }
     ensures { IsLastWith (decls_of checked.now).list decl (record { decl = root.0; method = root.1 }) count result }
 {
-    let mut found = None;
-    for method in 0..count {
-        let at = checked.root(decl, method);
-        if at.0 == root.0 && at.1 == root.1 {
-            found = Some(method);
+    for later in 0..count {
+        let method = count - 1 - later;
+        if has_root(checked, decl, method, root) {
+            return Some(method);
         }
     }
-    found
+    None
 }
 
 // The last method of a class that has a root.

@@ -20,6 +20,7 @@ use std::alloc::{AllocError, Global};
 use std::marker::Model;
 use vsd_check::Checked;
 use vsd_compat::Variances;
+use vsd_rule::Resolver;
 use vsd_slots::{ClosedMethod, implement, method_text};
 use vsd_terms::Names;
 use vsd_types::Closed;
@@ -36,6 +37,7 @@ pub struct Tables {
 }
 
 impl Model for Tables {
+    ghost use Rattle.std.specs.Prelude.{◌≡◌};
     ghost use Rattle.std.specs.Coded.{codes};
     ghost use Rattle.vsd_compat.specs.Variances.{AreVariancesOf};
     ghost use Rattle.vsd_check.specs.Checked.{decls_of};
@@ -168,6 +170,9 @@ impl Tables {
 }
 
 impl Resolver for Tables {
+    ghost use Rattle.vsd_compat.specs.Matrices.{bits_of};
+    ghost use Rattle.vsd_itable.specs.BitList.{bit-below};
+
     ghost types = { types_count };
 
     ghost tokens = { tokens_count };
@@ -186,5 +191,5 @@ impl Resolver for Tables {
 
     ghost targets_fit = { λ v i. v.targets.fits i };
 
-    ghost answers_are_bits = { λ v i. bits_below (types_count v) (bits_of v.matrix) i };
+    ghost answers_are_bits = { λ v i. bit-below (types_count v) (bits_of v.matrix) i };
 }
