@@ -14,6 +14,13 @@ use Rattle.vsd_itable.specs.Filling.{AddsTargets, AreTargetsTo, IsTargetAt}
 use Rattle.vsd_itable.specs.Numbering.{AddsMethods, AreNumberedTo}
 use Rattle.vsd_itable.specs.Tables.{IsListed}
 
+-- an element that is there, whatever stands for those that are not
+pub read_any : {A : Type 0} (xs : List A) (i : ℕ) (d e : A) → i < length xs → get_or xs i d ≡ get_or xs i e
+read_any xs i d e within =
+    let a = slice_get-get_or xs i d within in
+    let b = slice_get-get_or xs i e within in
+    cc
+
 -- ---- an element more
 
 push-length : {A : Type 0} (xs : List A) (x : A) → length (xs ++ x ∷ []) ≡ length xs + 1
@@ -88,6 +95,12 @@ module _ (c : TypeList) where
         ];
       }
 
+-- the number of a method is below that of all methods
+pub number-below : (c : TypeList) (methods : List ClosedMethod) (starts : List ℕ) (m : ClosedMethod) → AreNumberedTo c (length c.types) methods starts → IsListed c m → length c.types ≤ 1024 → get_or starts m.class 0 + m.method < 262144
+number-below c methods starts m numbered listed few =
+    let inside = slice_get_within methods (get_or starts m.class 0 + m.method) _ (numbered.each m.class m.method listed.class listed.method) in
+    omega (arith, inside, numbered.few, few)
+
 -- ---- targets
 
 module _ (c : TypeList) (tokens : List (ℕ × ℕ)) (methods : List ClosedMethod) where
@@ -121,7 +134,7 @@ module _ (c : TypeList) (tokens : List (ℕ × ℕ)) (methods : List ClosedMetho
       ])
 
   pub rows-none : AreTargetsTo c tokens methods 0 []
-  rows-none = record { long = refl; each = λ t k within less. absurd (omega (arith, within)); fits = λ i. lit< tt }
+  rows-none = record { long = omega arith; each = λ t k within less. absurd (omega (arith, within)); fits = λ i. lit< tt }
 
   pub rows-more : (t : ℕ) (old new : List ℕ) → AreTargetsTo c tokens methods t old → AddsTargets c tokens methods t (length tokens) old new → AreTargetsTo c tokens methods (t + 1) new
   rows-more t old new before adds =

@@ -5,3 +5,4 @@ pub mod FoundLaws
 pub mod FillLaws
 pub mod BitLaws
 pub mod SelectLaws
+pub mod ImplementLaws

@@ -24,14 +24,17 @@ module _ (ds : List Decl) where
       let same : one.place ≡ other.place = omega (arith, one.first other.place b other.stands other.suits, other.first one.place a one.stands one.suits) in
       same_some (sym one.stands ∙ ap (slice_get interfaces) same ∙ other.stands)
 
+  none-or-some : (j : Term) (interfaces : List Term) (b : Term) → IsMatchAmong ds j interfaces None → IsMatchAmong ds j interfaces (Some b) → ⊥
+  none-or-some j interfaces b none some =
+      elim some [
+        | inl exact ↦ none.0 exact.0
+        | inr first ↦ none.1 b (first.1.place, slice_get_within interfaces first.1.place b first.1.stands, get_or_from_slice_get interfaces first.1.place b b first.1.stands) first.1.suits
+      ]
+
   among-only : (j : Term) (interfaces : List Term) (a b : Option Term) → IsMatchAmong ds j interfaces a → IsMatchAmong ds j interfaces b → a ≡ b
   among-only j interfaces None None one other = refl
-  among-only j interfaces None (Some b) one other =
-      elim other [
-        | inl exact ↦ absurd (one.0 exact.0)
-        | inr first ↦ absurd (one.1 b (first.1.place, slice_get_within interfaces first.1.place b first.1.stands, get_or_from_slice_get interfaces first.1.place b b first.1.stands) first.1.suits)
-      ]
-  among-only j interfaces (Some a) None one other = sym (among-only j interfaces None (Some a) other one)
+  among-only j interfaces None (Some b) one other = absurd (none-or-some j interfaces b one other)
+  among-only j interfaces (Some a) None one other = absurd (none-or-some j interfaces a other one)
   among-only j interfaces (Some a) (Some b) one other =
       elim one [
         | inl exact ↦ elim other [

@@ -57,11 +57,11 @@ pub(crate) fn body_at(
     ensures { IsBodyAt closed.now t (record { decl = root.0; method = root.1 }) result }
 {
     let _decls = checked.decls();
-    if let Some(method) = own_body(checked, closed, t, root) {
-        return Some(ClosedMethod { class: t, method });
-    }
-    match closed.base(t) {
-        Some(base) => body_at(checked, closed, base, root),
-        None => None,
+    match own_body(checked, closed, t, root) {
+        Some(method) => Some(ClosedMethod { class: t, method }),
+        None => match closed.base(t) {
+            Some(base) => body_at(checked, closed, base, root),
+            None => None,
+        },
     }
 }
