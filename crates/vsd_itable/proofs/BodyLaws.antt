@@ -122,20 +122,20 @@ module _ (ds : List Decl) where
 
   pub method-in : (n m : ℕ) (x : Decl) → slice_get ds n ≡ Some x → m < length x.methods → (method : Method) × IsMethod ds (record { decl = n; method = m }) method
   method-in n m x here less = elim (slice_get_cases x.methods m).1 [
-      | inl there ↦ (there.0, record { owner = x; declared = here; listed = there.2 })
-      | inr past ↦ absurd (omega (arith, less, past.0))
-    ]
+    | inl there ↦ (there.0, record { owner = x; declared = here; listed = there.2 })
+    | inr past ↦ absurd (omega (arith, less, past.0))
+  ]
 
   -- the declaration of a type stands at its place
   pub counted-stands : (t : Term) (n : ℕ) → place_of_head ds (head_of t) ≡ Some n → n < length ds → (x : Decl) × (slice_get ds n ≡ Some x) × (method_count ds t ≡ length x.methods)
   counted-stands t n is within = elim (slice_get_cases ds n).1 [
-      | inl there ↦ (
-          let x = there.0 in
-          let at : declaration_of ds t ≡ Some x = place-declared (head_of t) n x is within ∙ ap Some there.3 in
-          (x, there.2, ap (λ (o : Option Decl). length (methods_in o)) at)
-          )
-      | inr past ↦ absurd (omega (arith, within, past.0))
-    ]
+    | inl there ↦ (
+        let x = there.0 in
+        let at : declaration_of ds t ≡ Some x = place-declared (head_of t) n x is within ∙ ap Some there.3 in
+        (x, there.2, ap (λ (o : Option Decl). length (methods_in o)) at)
+        )
+    | inr past ↦ absurd (omega (arith, within, past.0))
+  ]
 
 module _ (c : TypeList) where
   -- from the last method of a declaration to the last of a type
@@ -143,16 +143,15 @@ module _ (c : TypeList) where
   own-is t n root t_in is None none = λ m has.
       let same : has.decl ≡ n = same_some (sym has.declared ∙ is) in
       none m (root-within c.decls.list root (type_at c.types t) m has) (subst (λ k. IsRoot c.decls.list (record { decl = k; method = m }) root) same has.rooted)
-  own-is t n root t_in is (Some m) last =
-      (
-        record { class = t_in; method = last.0 },
-        record {
-          rooted = record { decl = n; declared = is; rooted = last.1 };
-          last = λ k has.
-              let same : has.decl ≡ n = same_some (sym has.declared ∙ is) in
-              last.2 k (root-within c.decls.list root (type_at c.types t) k has) (subst (λ d. IsRoot c.decls.list (record { decl = d; method = k }) root) same has.rooted);
-        },
-      )
+  own-is t n root t_in is (Some m) last = (
+    record { class = t_in; method = last.0 },
+    record {
+      rooted = record { decl = n; declared = is; rooted = last.1 };
+      last = λ k has.
+          let same : has.decl ≡ n = same_some (sym has.declared ∙ is) in
+          last.2 k (root-within c.decls.list root (type_at c.types t) k has) (subst (λ d. IsRoot c.decls.list (record { decl = d; method = k }) root) same has.rooted);
+    },
+  )
 
   -- what a class without such a method has is what its base has
   pub body-further : (t b : ℕ) (root : Place) → DeclaresNone c.decls.list root (type_at c.types t) → base_of c.decls.list (type_at c.types t) ≡ Some (type_at c.types b) → (found : Option ClosedMethod) → IsBodyAt c b root found → IsBodyAt c t root found
@@ -162,13 +161,13 @@ module _ (c : TypeList) where
   -- a number whose type has methods is listed
   pub counted-listed : (i m : ℕ) → m < method_count c.decls.list (type_at c.types i) → i < length c.types
   counted-listed i m less = elim (cases_lt i (length c.types)) [
-      | inl within ↦ within
-      | inr past ↦ (
-          let at : type_at c.types i ≡ object = get_or_past c.types i object past in
-          let none : method_count c.decls.list object ≡ 0 = ap (λ (h : Head). length (methods_in (declaration_of_head c.decls.list h))) (head_of-Builtin Object) in
-          absurd (omega (arith, less, ap (method_count c.decls.list) at, none))
-          )
-    ]
+    | inl within ↦ within
+    | inr past ↦ (
+        let at : type_at c.types i ≡ object = get_or_past c.types i object past in
+        let none : method_count c.decls.list object ≡ 0 = ap (λ (h : Head). length (methods_in (declaration_of_head c.decls.list h))) (head_of-Builtin Object) in
+        absurd (omega (arith, less, ap (method_count c.decls.list) at, none))
+        )
+  ]
 
   -- the interface that a class lacks a method of is listed
   pub missing-listed : (t i m : ℕ) → IsMissing c t i m → i < length c.types

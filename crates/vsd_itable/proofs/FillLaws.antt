@@ -128,9 +128,9 @@ module _ (c : TypeList) (tokens : List (ℕ × ℕ)) (methods : List ClosedMetho
       fits-push all i = subst (λ (l : List ℕ). get_or l i 0 < 2 ^ 32) (sym is) (elim (cases_lt i (length mid)) [
         | inl less ↦ subst (λ n. n < 2 ^ 32) (sym (get_or_append_left mid (x ∷ []) 0 i less)) (all i)
         | inr high ↦ (elim (cases_lt (length mid) i) [
-            | inl past ↦ subst (λ n. n < 2 ^ 32) (sym (get_or_past (mid ++ x ∷ []) i 0 (omega (arith, past, push-length mid x)))) (lit< tt)
-            | inr under ↦ (let same : length mid ≡ i = omega (arith, high, under) in subst (λ n. n < 2 ^ 32) (sym (get_or_push mid x 0 i same)) low)
-          ])
+          | inl past ↦ subst (λ n. n < 2 ^ 32) (sym (get_or_past (mid ++ x ∷ []) i 0 (omega (arith, past, push-length mid x)))) (lit< tt)
+          | inr under ↦ (let same : length mid ≡ i = omega (arith, high, under) in subst (λ n. n < 2 ^ 32) (sym (get_or_push mid x 0 i same)) low)
+        ])
       ])
 
   pub rows-none : AreTargetsTo c tokens methods 0 []
@@ -154,5 +154,6 @@ module _ (c : TypeList) (tokens : List (ℕ × ℕ)) (methods : List ClosedMetho
     where
       more : (t n : ℕ) → t * n + n ≡ (t + 1) * n
       more t n = sym (suc-mul t n) ∙ ap (λ k. k * n) (let next : suc t ≡ t + 1 = omega arith in next)
+
       inside : (u t k n : ℕ) → u < t → k < n → u * n + k < t * n
       inside u t k n low less = omega (arith, mul-add-lt u n k t low less)

@@ -62,9 +62,9 @@ module _ (c : TypeList) (well : AreWellFormed c.decls) (distinct : IsDistinct c.
   -- the interface that answers has as many methods
   pub place-counts : (p : ℕ) → IsMatchPlace c ns j (Some p) → (p < length ns) × (method_count c.decls.list (type_at c.types (get_or ns p 0)) ≡ method_count c.decls.list (type_at c.types j))
   place-counts p is = elim is [
-      | inl exact ↦ (exact.1.0, ap (λ k. method_count c.decls.list (type_at c.types k)) exact.1.1)
-      | inr first ↦ (first.1.0, head_counts (type_at c.types (get_or ns p 0)) (type_at c.types j) first.1.1.generic.generic)
-    ]
+    | inl exact ↦ (exact.1.0, ap (λ k. method_count c.decls.list (type_at c.types k)) exact.1.1)
+    | inr first ↦ (first.1.0, head_counts (type_at c.types (get_or ns p 0)) (type_at c.types j) first.1.1.generic.generic)
+  ]
 
 module _ (c : TypeList) (t : ℕ) (method : ClosedMethod) (upward : IsDeclaredFrom c t method) (root : Place) (rooted : HasRoot c.decls.list root (type_at c.types method.class) method.method) where
   -- the slot of a method that a type declares, or one above it, holds something

@@ -6,3 +6,4 @@ pub mod FillLaws
 pub mod BitLaws
 pub mod SelectLaws
 pub mod ImplementLaws
+pub mod TableLaws

@@ -73,12 +73,12 @@ module _ (c : TypeList) (distinct : IsDistinct c.types) (ns : List ℕ) (j : ℕ
             inl (subst (Contains (types_of c.types ns)) same (contains p exact.1.0), same)
             )
         | inr variant ↦ inr (
-            absent variant.0,
-            record {
-              place = p;
-              stands = stands p variant.1.0;
-              suits = variant.1.1;
-              first = first-place p variant.1;
-            }
-          )
+          absent variant.0,
+          record {
+            place = p;
+            stands = stands p variant.1.0;
+            suits = variant.1.1;
+            first = first-place p variant.1;
+          },
+        )
       ]

@@ -23,6 +23,6 @@ bits_list count b = map (bit_in_place count b) (range_with_len 0 (count * count)
 -- each entry is a bit
 pub bit-below : (n : ℕ) (b : Bits) (i : ℕ) → slice_index (bits_list n b) i < 2
 bit-below n b i = elim (cases_lt i (n * n)) [
-    | inl within ↦ subst (λ k. k < 2) (sym (get_or-map-range_with_len (bit_in_place n b) 0 (n * n) i i 0 within (omega arith))) (bit_at-lt _ _)
-    | inr past ↦ subst (λ k. k < 2) (sym (get_or_past (bits_list n b) i 0 (omega (arith, past, length-map-range_with_len (bit_in_place n b) 0 (n * n))))) (lit< tt)
-  ]
+  | inl within ↦ subst (λ k. k < 2) (sym (get_or-map-range_with_len (bit_in_place n b) 0 (n * n) i i 0 within (omega arith))) (bit_at-lt _ _)
+  | inr past ↦ subst (λ k. k < 2) (sym (get_or_past (bits_list n b) i 0 (omega (arith, past, length-map-range_with_len (bit_in_place n b) 0 (n * n))))) (lit< tt)
+]

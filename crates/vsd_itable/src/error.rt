@@ -19,7 +19,9 @@ pub enum BuildError {
     },
     /// With this class there are more than 262,144 slots.
     #[error("line {line}: too many slots")]
-    TooManySlots { line: u32 },
+    TooManySlots {
+        line: u32,
+    },
     /// There is no memory.
     #[error("out of memory")]
     Memory,

@@ -10,6 +10,6 @@ returns-then-at-root c =
 
 pub returns-else-at-root : goal.returns-else-at-root
 returns-else-at-root c = (
-    λ yes. absurd (c.if-at-root.false (eqb-true c.root-at.result.0 c.args.root.0 yes)),
-    λ other. absurd (root-differs (decls_of c.args.checked.now).list (record { decl = c.args.decl; method = c.args.method }) (record { decl = c.root-at.result.0; method = c.root-at.result.1 }) (record { decl = c.args.root.0; method = c.args.root.1 }) c.root-at.ensures.root c.if-at-root.false other),
-  )
+  λ yes. absurd (c.if-at-root.false (eqb-true c.root-at.result.0 c.args.root.0 yes)),
+  λ other. absurd (root-differs (decls_of c.args.checked.now).list (record { decl = c.args.decl; method = c.args.method }) (record { decl = c.root-at.result.0; method = c.root-at.result.1 }) (record { decl = c.args.root.0; method = c.args.root.1 }) c.root-at.ensures.root c.if-at-root.false other),
+)

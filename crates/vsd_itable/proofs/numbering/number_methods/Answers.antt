@@ -12,4 +12,5 @@ loop-t-preserved c =
     let count = method_count s.decls.list (type_at s.types t) in
     let adds : AddsMethods t count c.loop-t.methods.items c.add_methods.new.methods.items = subst (λ n. AddsMethods t n c.loop-t.methods.items c.add_methods.new.methods.items) c.count_methods.ensures.count c.in_ok-add_methods.ensures in
     let few : count ≤ 256 = omega (arith, c.count_methods.ensures.count, c.count_methods.ensures.few) in
-    numbered-more s t c.loop-t.methods.items c.add_methods.new.methods.items c.loop-t.starts.items c.push.new.self.items (omega (arith, c.loop-t-test.true, c.count-t-end.ensures.count)) few c.loop-t.invariant adds (c.in_ok-push.ensures.items ∙ ap (λ (n : ℕ). c.loop-t.starts.items ++ n ∷ []) (omega (arith, c.len.ensures, c.loop-t.methods.ok)))
+    let long : c.len.result ≡ length c.loop-t.methods.items = omega (arith, c.len.ensures, c.loop-t.methods.ok) in
+    numbered-more s t c.loop-t.methods.items c.add_methods.new.methods.items c.loop-t.starts.items c.push.new.self.items (omega (arith, c.loop-t-test.true, c.count-t-end.ensures.count)) few c.loop-t.invariant adds (subst (λ (n : ℕ). c.push.new.self.items ≡ c.loop-t.starts.items ++ n ∷ []) long c.in_ok-push.ensures.items)
