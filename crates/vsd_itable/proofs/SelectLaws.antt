@@ -7,10 +7,12 @@ use Rattle.vsd_ast.specs.declared.declarations.Decl.{Decl}
 use Rattle.vsd_roots.specs.Slots.{IsRoot}
 use Rattle.vsd_roots.specs.declared.place.Place.{Place}
 use Rattle.vsd_roots.proofs.RootLaws.{root_only}
-use Rattle.vsd_slots.specs.Implementation.{Found}
+use Rattle.vsd_slots.specs.Implementation.{Found, IsImplementation}
+use Rattle.vsd_slots.specs.Refusals.{AreAll, method_count}
 use Rattle.vsd_slots.proofs.SlotLaws.{all-unique, implementation-unique}
 use Rattle.vsd_itable.specs.Bodies.{HasRoot, IsBody, IsLast, IsUpward, above, declared, inherited, itself}
-use Rattle.vsd_itable.specs.Matching.{IsFirstThatSuits, IsMatch, IsMatchAmong}
+use Rattle.vsd_itable.specs.Matching.{IsFirstThatSuits, IsMatch, IsMatchAmong, Suits}
+use Rattle.vsd_itable.proofs.BodyLaws.{root-within}
 use Rattle.vsd_itable.specs.Selection.{IsBodyFor, IsImplementedBy, IsSelection}
 
 same_some : {A : Type 0} {x y : A} → Some x ≡ Some y → x ≡ y
@@ -97,3 +99,47 @@ module _ (ds : List Decl) where
   body-rooted : {root : Place} {t : Term} {body : Found} → IsBody ds root t body → HasRoot ds root body.class body.method
   body-rooted {root} {t} {body} (declared is last) = subst (λ u. HasRoot ds root u body.method) (sym is) last.rooted
   body-rooted (inherited b none at rest) = body-rooted rest
+
+  chosen : (t : Term) (method : Option Found) (f : Found) → IsBodyFor ds t method (Some f) → IsUpward ds t f.class × (f.method < method_count ds f.class)
+  chosen t None f is = absurd cc
+  chosen t (Some g) f is = (body-upward is.holds, root-within ds is.root f.class f.method (body-rooted is.holds))
+
+  pub declared-upward : (t j : Term) (m : ℕ) (f : Found) → IsSelection ds t j m (Some f) → IsUpward ds t f.class × (f.method < method_count ds f.class)
+  declared-upward t j m f is = chosen t is.method f is.body
+
+  -- ---- which interface answers
+
+  among-exact : (j : Term) (interfaces : List Term) (found : Option Term) → Contains interfaces j → IsMatchAmong ds j interfaces found → found ≡ Some j
+  among-exact j interfaces None has is = absurd (is.0 has)
+  among-exact j interfaces (Some i) has is = elim is [
+    | inl exact ↦ ap Some exact.1
+    | inr first ↦ absurd (first.0 has)
+  ]
+
+  pub exact-answers : (t j : Term) (interfaces : List Term) (found : Option Term) → AreAll ds t interfaces → Contains interfaces j → IsMatch ds t j found → found ≡ Some j
+  exact-answers t j interfaces found all has is =
+      among-exact j interfaces found has (subst (λ l. IsMatchAmong ds j l found) (all-unique ds t is.interfaces interfaces is.all all) is.among)
+
+  among-none : (j : Term) (interfaces : List Term) (found : Option Term) → (Contains interfaces j → ⊥) → ((i : Term) → Contains interfaces i → Suits ds j i → ⊥) → IsMatchAmong ds j interfaces found → found ≡ None
+  among-none j interfaces None absent unfit is = refl
+  among-none j interfaces (Some i) absent unfit is = absurd (none-or-some j interfaces i (absent, unfit) is)
+
+  none-left : (t : Term) (m : ℕ) (method found : Option Found) → method ≡ None → IsBodyFor ds t method found → found ≡ None
+  none-left t m None found is body = body
+  none-left t m (Some f) found is body = absurd cc
+
+  pub missing-unanswered : (t j : Term) (m : ℕ) (interfaces : List Term) (found : Option Found) → AreAll ds t interfaces → (Contains interfaces j → ⊥) → ((i : Term) → Contains interfaces i → Suits ds j i → ⊥) → IsSelection ds t j m found → found ≡ None
+  missing-unanswered t j m interfaces found all absent unfit is =
+      let here = subst (λ l. IsMatchAmong ds j l is.answering) (all-unique ds t is.matches.interfaces interfaces is.matches.all all) is.matches.among in
+      let none = among-none j interfaces is.answering absent unfit here in
+      none-left t m is.method found (subst (λ i. IsImplementedBy ds t m i is.method) none is.implements) is.body
+
+  some_left : (t : Term) (f : Found) (found : Option Found) → IsBodyFor ds t (Some f) found → (b : Found) × (found ≡ Some b)
+  some_left t f None body = absurd body
+  some_left t f (Some b) body = (b, refl)
+
+  pub selected-where : (t j i : Term) (m : ℕ) (f : Found) (found : Option Found) → IsMatch ds t j (Some i) → IsImplementation ds t i m (Some f) → IsSelection ds t j m found → (b : Found) × (found ≡ Some b)
+  selected-where t j i m f found matches implements is =
+      let answering = match-only t j is.answering (Some i) is.matches matches in
+      let same = implemented-only t m (Some i) is.method (Some f) (subst (λ o. IsImplementedBy ds t m o is.method) answering is.implements) implements in
+      some_left t f found (subst (λ o. IsBodyFor ds t o found) same is.body)

@@ -9,3 +9,4 @@ pub mod Refusals
 pub mod Places
 pub mod Numbering
 pub mod Filling
+pub mod Laws

@@ -10,6 +10,7 @@
 mod bodies;
 mod error;
 mod filling;
+mod laws;
 mod matching;
 mod numbering;
 mod refusing;
@@ -19,5 +20,6 @@ mod target;
 mod targets;
 
 pub use error::BuildError;
+pub use laws::selection_law;
 pub use tables::Tables;
 pub use target::Target;
