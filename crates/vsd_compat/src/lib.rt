@@ -11,4 +11,5 @@ mod variances;
 mod waking;
 
 pub use laws::compatibility_law;
+pub use relation::are_same_generic;
 pub use variances::Variances;

@@ -5,3 +5,5 @@
 mod checking;
 #[cfg(test)]
 mod scripts;
+#[cfg(test)]
+mod selecting;
