@@ -9,4 +9,5 @@ mod variances;
 mod waking;
 
 pub use laws::compatibility_law;
+pub use relation::are_same_interface;
 pub use variances::Variances;

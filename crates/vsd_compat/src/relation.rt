@@ -51,8 +51,8 @@ fn are_variant(closed: &Closed, matrix: &Matrix, t: u16, u: u16) -> bool
     true
 }
 
-/// Whether two types are of one interface.
-fn are_same_interface(closed: &Closed, t: u16, u: u16) -> bool
+/// Whether two types are of one generic interface, at maybe other arguments. Takes no memory.
+pub fn are_same_interface(closed: &Closed, t: u16, u: u16) -> bool
     requires first { t < length closed.now.types }
     requires second { u < length closed.now.types }
     ensures { IsTrue result ↔ AreSameInterface closed.now.decls.list (type_at closed.now.types t) (type_at closed.now.types u) }

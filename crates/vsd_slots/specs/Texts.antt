@@ -19,6 +19,10 @@ abbrev pub name_at : List Method → ℕ → Option Method → List ℕ
 name_at methods place None = []
 name_at methods place (Some m) = m.name ++ mark (namesakes methods m.name place)
 
--- The type, `::`, the method's name, and `#k` where it is the k-th of that name in its declaration and k is at least 2.
+-- the name of a method of a type, and `#k` where it is the k-th of that name in its declaration and k is at least 2
+abbrev pub name_text : List Decl → Term → ℕ → List ℕ
+name_text ds t place = name_at (methods_in (declaration_of ds t)) place (slice_get (methods_in (declaration_of ds t)) place)
+
+-- the type, `::`, and the method's name
 abbrev pub method_text : List (List ℕ) → List Decl → Term → ℕ → List ℕ
-method_text names ds t place = text_of names t ++ codes "::" ++ name_at (methods_in (declaration_of ds t)) place (slice_get (methods_in (declaration_of ds t)) place)
+method_text names ds t place = text_of names t ++ codes "::" ++ name_text ds t place

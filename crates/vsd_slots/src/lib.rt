@@ -19,5 +19,6 @@ mod texts;
 
 pub use entries::ClosedMethod;
 pub use laws::{implementation_law, interfaces_law};
+pub use rows::count_methods;
 pub use slots::{SlotError, Slots, implement};
-pub use texts::method_text;
+pub use texts::{method_text, name_text, type_text};

@@ -17,8 +17,8 @@ use vsd_types::Closed;
 /// The most slots that the classes of a list have together.
 pub(crate) const MOST_SLOTS: u32 = 262144;
 
-// How many virtual methods the declaration of a type has.
-fn count_methods(checked: &Checked, closed: &Closed, t: u16) -> u16
+/// How many virtual methods the declaration of a type has; 0 for a built-in. Takes no memory.
+pub fn count_methods(checked: &Checked, closed: &Closed, t: u16) -> u16
     requires together { closed.now.decls ≡ decls_of checked.now }
     requires within { t < length closed.now.types }
     ensures count { result ≡ method_count closed.now.decls.list (type_at closed.now.types t) }

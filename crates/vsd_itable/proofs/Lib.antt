@@ -1,0 +1,9 @@
+-- Lemmas that several proofs of this crate share.
+pub mod BodyLaws
+pub mod MatchLaws
+pub mod FoundLaws
+pub mod FillLaws
+pub mod BitLaws
+pub mod SelectLaws
+pub mod ImplementLaws
+pub mod TableLaws

@@ -1,0 +1,29 @@
+-- What selection comes to, in other words.
+use Rattle.std.specs.Prelude.{◌≡◌, ℕ, ◌<◌, List, Contains, Option, Some, None}
+use Rattle.vsd_terms.specs.declared.term.Term.{Term}
+use Rattle.vsd_ast.specs.declared.declarations.Decl.{Decl}
+use Rattle.vsd_slots.specs.Implementation.{Found, IsImplementation}
+use Rattle.vsd_slots.specs.Refusals.{AreAll, method_count}
+use Rattle.vsd_itable.specs.Bodies.{IsUpward}
+use Rattle.vsd_itable.specs.Matching.{IsMatch, Suits}
+use Rattle.vsd_itable.specs.Selection.{IsSelection}
+
+-- a call selects one thing
+abbrev pub SelectsOne : Type 0
+SelectsOne = (ds : List Decl) (t j : Term) (m : ℕ) (a b : Option Found) → IsSelection ds t j m a → IsSelection ds t j m b → a ≡ b
+
+-- what is selected is declared by the object's type or one above it
+abbrev pub IsDeclaredUpward : Type 0
+IsDeclaredUpward = (ds : List Decl) (t j : Term) (m : ℕ) (f : Found) → IsSelection ds t j m (Some f) → IsUpward ds t f.class × (f.method < method_count ds f.class)
+
+-- an interface that the class or one above it has answers for itself, whatever variant stands nearer
+abbrev pub ExactAnswers : Type 0
+ExactAnswers = (ds : List Decl) (t j : Term) (interfaces : List Term) (found : Option Term) → AreAll ds t interfaces → Contains interfaces j → IsMatch ds t j found → found ≡ Some j
+
+-- an interface that neither the class nor one above it has, and for which none of theirs may answer, is missing
+abbrev pub IsMissingUnanswered : Type 0
+IsMissingUnanswered = (ds : List Decl) (t j : Term) (m : ℕ) (interfaces : List Term) (found : Option Found) → AreAll ds t interfaces → (Contains interfaces j → ⊥) → ((i : Term) → Contains interfaces i → Suits ds j i → ⊥) → IsSelection ds t j m found → found ≡ None
+
+-- a slot whose interface is answered for, and whose method is implemented there, isn't missing
+abbrev pub IsSelectedWhereImplemented : Type 0
+IsSelectedWhereImplemented = (ds : List Decl) (t j i : Term) (m : ℕ) (f : Found) (found : Option Found) → IsMatch ds t j (Some i) → IsImplementation ds t i m (Some f) → IsSelection ds t j m found → (b : Found) × (found ≡ Some b)

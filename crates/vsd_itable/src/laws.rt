@@ -1,0 +1,13 @@
+//! What selection comes to, in other words.
+ghost use Rattle.vsd_itable.specs.Laws.{ExactAnswers, IsDeclaredUpward, IsMissingUnanswered, IsSelectedWhereImplemented, SelectsOne};
+
+/// A call selects one method, or its slot is missing. The method is declared by the object's type or one above it. An interface
+/// that the type or one above it has answers for itself; one that they don't have, and for which none of theirs may answer,
+/// is missing; and where one answers and implements the method, something is selected.
+pub fn selection_law()
+    ensures one { SelectsOne }
+    ensures upward { IsDeclaredUpward }
+    ensures exact { ExactAnswers }
+    ensures missing { IsMissingUnanswered }
+    ensures selected { IsSelectedWhereImplemented }
+{}
