@@ -41,6 +41,6 @@ module _ (c : TypeList) where
 
   -- a refusal says what is so; want of memory says nothing
   abbrev pub IsRefused : BuildError → Type 0
-  IsRefused (MissingImplementation line class interface method) = IsMissingText line class.items interface.items method.items
+  IsRefused (MissingImplementation line class interface method) = IsMissingText line class interface method
   IsRefused (TooManySlots line) = IsTooManyLine line
   IsRefused Memory = Unit {0}

@@ -4,6 +4,7 @@ ghost use Rattle.vsd_itable.specs.declared.error.BuildError.TheVariants.{Memory}
 
 use std::alloc::AllocError;
 use thiserror::Error;
+use vsd_ast::Bytes;
 
 /// Why there are no tables, with the line of the class's declaration and what is told of it.
 #[derive(Debug, Drop, Error)]
@@ -13,9 +14,9 @@ pub enum BuildError {
     #[error("line {line}: missing implementation")]
     MissingImplementation {
         line: u32,
-        class: Vec<u8>,
-        interface: Vec<u8>,
-        method: Vec<u8>,
+        class: Bytes,
+        interface: Bytes,
+        method: Bytes,
     },
     /// With this class there are more than 262,144 slots.
     #[error("line {line}: too many slots")]

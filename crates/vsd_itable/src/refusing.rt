@@ -6,6 +6,7 @@ ghost use Rattle.vsd_slots.specs.Slots.{IsRefusal};
 ghost use Rattle.vsd_itable.specs.Refusals.{IsRefused, line_of};
 
 use crate::error::BuildError;
+use sqlite_items::Items;
 use std::alloc::{AllocError, Global};
 use vsd_check::Checked;
 use vsd_slots::{SlotError, name_text, type_text};
@@ -42,9 +43,9 @@ fn missing(
     let interface = type_text(alloc, checked, closed, interface)?;
     Ok(BuildError::MissingImplementation {
         line,
-        class,
-        interface,
-        method: name,
+        class: Items::from_vec(class),
+        interface: Items::from_vec(interface),
+        method: Items::from_vec(name),
     })
 }
 

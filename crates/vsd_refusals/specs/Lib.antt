@@ -1,0 +1,2 @@
+-- What contracts over refusals cite.
+pub mod Lines
