@@ -25,6 +25,7 @@ use Rattle.vsd_rows.specs.Logged.{LogsOne}
 use Rattle.vsd_rows.specs.Leaving.{Goes}
 use Rattle.vsd_rows.proofs.Makes.{joined, then_makes, makes_none}
 use Rattle.vsd_ccache.specs.declared.finding.First.TheVariants as first
+use Rattle.vsd_ccache.specs.declared.finding.FirstMiss.{FirstMiss}
 use Rattle.vsd_ccache.specs.Looks.{WritesCasts}
 use Rattle.vsd_ccache.specs.Begun.{BeginsLook}
 use Rattle.vsd_casts.specs.Parts.{EndsLook}
@@ -50,8 +51,8 @@ module _ (k : Key) (source target : Handle) where
   casts_found found old one new a first second = joined (casting_by k source target) first second
 
   -- a first probe that missed, and the rest
-  pub casts_on : (region home version : ℕ) (old one new : Seated) (a : Result CastAnswer Unloaded) → BeginsLook old one source target (first.Miss region home version) → EndsLook one new k source target region home version a → Makes old new (casting k source target) a
-  casts_on region home version old one new a begins ends = casts_found ends.found old ends.now new a (begins ends.now ends.found ends.looks) ends.goes
+  pub casts_on : (m : FirstMiss) (old one new : Seated) (a : Result CastAnswer Unloaded) → BeginsLook old one source target (first.Miss m) → EndsLook one new k source target m a → Makes old new (casting k source target) a
+  casts_on m old one new a begins ends = casts_found ends.found old ends.now new a (begins ends.now ends.found ends.looks) ends.goes
 
   module _ (m : Miss) where
     pub walks_no_source : (u : Unloaded) (old one : Seated) → Makes old one (typing source) (Err u) → Makes old one (casting_by k source target (find.Miss m)) (Err u)

@@ -19,7 +19,7 @@ ghost use Rattle.vsd_ccache.specs.Tells.{Tells};
 ghost use Rattle.vsd_casts.specs.Answers.{AnswerTells};
 ghost use Rattle.vsd_casts.specs.Parts.{EndsLook};
 
-use vsd_ccache::{First, probe_first, probe_others, put};
+use vsd_ccache::{First, FirstMiss, probe_first, probe_others, put};
 use vsd_handles::type_of;
 use vsd_rows::Hand;
 use vsd_table::{Resolver, Shared};
@@ -64,11 +64,7 @@ pub fn cast<R: Resolver>(
     match probe_first(table, hand, source, target) {
         First::Hit(yes) => Ok(CastAnswer { yes, walked: false }),
         // The answer is taken apart, so that only this arm has it in memory.
-        First::Miss {
-            region,
-            home,
-            version,
-        } => match look_on(table, resolver, hand, region, home, version, source, target) {
+        First::Miss(first) => match look_on(table, resolver, hand, first, source, target) {
             Ok(answer) => Ok(answer),
             Err(unloaded) => Err(unloaded),
         },
@@ -82,9 +78,7 @@ fn look_on<R: Resolver>(
     table: &Shared,
     resolver: &R,
     hand: &mut Hand,
-    region: u16,
-    home: u32,
-    first: u64,
+    first: FirstMiss,
     source: Handle,
     target: Handle,
 ) -> Result<CastAnswer, Unloaded>
@@ -97,8 +91,8 @@ fn look_on<R: Resolver>(
     requires target { HandleInRange target }
     requires target_row { target.row < handle_rows (key_of table.now).sizes }
     requires some_target { 0 < target.generation }
-    requires begun { IsFirstMissOf (key_of table.now) source target region home }
-    ensures trail { EndsLook hand.old.seated hand.new.seated (key_of table.now) source target region home first result }
+    requires first { IsFirstMissOf (key_of table.now) source target first }
+    ensures trail { EndsLook hand.old.seated hand.new.seated (key_of table.now) source target first result }
     ensures complete { IsSure (view_of hand.old.seated) source → IsSure (view_of hand.old.seated) target → IsOk result }
     ensures cause { IfErr result (λ u. ¬ IsSure (view_of hand.old.seated) u.handle) }
     ensures evidence { IfOk result (λ a. HasCastEvidence (view_of hand.new.seated) source target a.yes) }
@@ -107,7 +101,7 @@ fn look_on<R: Resolver>(
     ensures stays { Stays (view_of hand.old.seated) (view_of hand.new.seated) }
     ensures seat { Belongs table.now hand.new.seated }
 {
-    match probe_others(table, hand, region, home, first, source, target) {
+    match probe_others(table, hand, first, source, target) {
         Find::Hit(yes) => Ok(CastAnswer { yes, walked: false }),
         Find::Miss(miss) => walk(table, resolver, hand, miss, source, target),
     }

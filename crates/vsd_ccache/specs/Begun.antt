@@ -11,4 +11,4 @@ use Rattle.vsd_ccache.specs.declared.finding.First.TheVariants as first
 -- at a hit the look is whole; after a miss it is, once the other seven rows are probed
 abbrev pub BeginsLook : Seated → Seated → Handle → Handle → First → Type 0
 BeginsLook old new source target (first.Hit answer) = Makes old new (finding_cast source target) (find.Hit answer)
-BeginsLook old new source target (first.Miss region home version) = Leads old (finding_cast source target) new (probing source target region home 7 1 (version ∷ []))
+BeginsLook old new source target (first.Miss m) = Leads old (finding_cast source target) new (probing source target m.region m.home 7 1 (m.version ∷ []))

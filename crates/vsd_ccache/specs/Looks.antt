@@ -1,5 +1,5 @@
 -- What a look into the cast cache and a write make of the caller, what is found, and which misses a write takes.
-use Rattle.std.specs.Prelude.{◌≡◌, ◌<◌, ℕ, length}
+use Rattle.std.specs.Prelude.{◌≡◌, ◌<◌, length}
 use Rattle.vsd_words.specs.declared.handle.Handle.{Handle}
 use Rattle.vsd_words.specs.Hash.{home_of}
 use Rattle.vsd_rule.specs.declared.key.Key.{Key}
@@ -11,6 +11,7 @@ use Rattle.vsd_trails.specs.declared.casting.Find.TheVariants as find
 use Rattle.vsd_trails.specs.CastTrails.{region_size, Probed, probe_hit, probe_miss}
 use Rattle.vsd_ccache.specs.declared.finding.First.{First}
 use Rattle.vsd_ccache.specs.declared.finding.First.TheVariants as first
+use Rattle.vsd_ccache.specs.declared.finding.FirstMiss.{FirstMiss}
 use Rattle.vsd_ccache.specs.declared.probing.RowLook.{RowLook}
 use Rattle.vsd_ccache.specs.declared.probing.RowLook.TheVariants as look
 
@@ -42,14 +43,14 @@ pub record IsMissOf (k : Key) (source target : Handle) (m : Miss) : Type 0 where
   pub eight : length m.versions ≡ 8
 
 -- the first probe was one of the pair: in a region of the table, at the pair's home
-pub record IsFirstMissOf (k : Key) (source target : Handle) (region home : ℕ) : Type 0 where
-  pub in_table : region < k.sizes.regions
-  pub at_home : home ≡ home_of source target (region_size region)
+pub record IsFirstMissOf (k : Key) (source target : Handle) (m : FirstMiss) : Type 0 where
+  pub region : m.region < k.sizes.regions
+  pub home : m.home ≡ home_of source target (region_size m.region)
 
 -- the same of the first probe
 abbrev pub FirstFoundFor : Key → View → Handle → Handle → First → Type 0
 FirstFoundFor k v source target (first.Hit answer) = HasCastEvidence v source target answer
-FirstFoundFor k v source target (first.Miss region home version) = IsFirstMissOf k source target region home
+FirstFoundFor k v source target (first.Miss m) = IsFirstMissOf k source target m
 
 -- a hit is evidence, and a miss is one of the pair
 abbrev pub FoundFor : Key → View → Handle → Handle → Find → Type 0

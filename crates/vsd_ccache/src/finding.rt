@@ -21,13 +21,17 @@ use vsd_words::{Handle, home_of};
 pub enum First {
     /// The pair, with its answer.
     Hit(bool),
-    /// Another pair, or a row that was written meanwhile or never: with the region that was loaded, the pair's home in it,
-    /// and the version that the probe loaded first.
-    Miss {
-        region: u16,
-        home: u32,
-        version: u64,
-    },
+    /// Another pair, or a row that was written meanwhile or never.
+    Miss(FirstMiss),
+}
+
+/// A look whose first probe missed: the region that was loaded, the pair's home in it, and the version that the probe
+/// loaded first.
+#[derive(Clone, Copy, PartialEq, Eq, Debug)]
+pub struct FirstMiss {
+    pub region: u16,
+    pub home: u32,
+    pub version: u64,
 }
 
 /// Looks the pair up: loads the region in use, and probes eight rows of it from the pair's home on, until
@@ -49,11 +53,7 @@ pub fn find(table: &Shared, hand: &mut Hand, source: Handle, target: Handle) -> 
 {
     match probe_first(table, hand, source, target) {
         First::Hit(yes) => Find::Hit(yes),
-        First::Miss {
-            region,
-            home,
-            version,
-        } => probe_others(table, hand, region, home, version, source, target),
+        First::Miss(first) => probe_others(table, hand, first, source, target),
     }
 }
 
@@ -75,46 +75,43 @@ pub fn probe_first(table: &Shared, hand: &mut Hand, source: Handle, target: Hand
     let row = probe_row(region, home, 0);
     match probe(table, hand, region, row, source, target) {
         RowLook::Hit(yes) => First::Hit(yes),
-        RowLook::Miss(version) => First::Miss {
+        RowLook::Miss(version) => First::Miss(FirstMiss {
             region,
             home,
             version,
-        },
+        }),
     }
 }
 
-/// Ends a look whose first probe missed: probes the other seven rows of the region, until one is a hit. `first` is the
-/// version that the first probe loaded first.
+/// Ends a look whose first probe missed: probes the other seven rows, until one is a hit.
 pub fn probe_others(
     table: &Shared,
     hand: &mut Hand,
-    region: u16,
-    home: u32,
-    first: u64,
+    first: FirstMiss,
     source: Handle,
     target: Handle,
 ) -> Find
     requires seat { Belongs table.now hand.old.seated }
     requires source { HandleInRange source }
     requires target { HandleInRange target }
-    requires begun { IsFirstMissOf (key_of table.now) source target region home }
-    ensures trail { Makes hand.old.seated hand.new.seated (probing source target region home 7 1 (first ∷ [])) result }
+    requires first { IsFirstMissOf (key_of table.now) source target first }
+    ensures trail { Makes hand.old.seated hand.new.seated (probing source target first.region first.home 7 1 (first.version ∷ [])) result }
     ensures changes { LooksAtCasts (view_of hand.old.seated) (view_of hand.new.seated) }
     ensures found { FoundFor (key_of table.now) (view_of hand.new.seated) source target result }
     ensures agree { CastsAgree (view_of hand.new.seated) }
     ensures seat { Belongs table.now hand.new.seated }
 {
-    let mut versions = [first; 8];
+    let mut versions = [first.version; 8];
     for i in 1..8 {
-        let row = probe_row(region, home, i);
-        match probe(table, hand, region, row, source, target) {
+        let row = probe_row(first.region, first.home, i);
+        match probe(table, hand, first.region, row, source, target) {
             RowLook::Hit(yes) => return Find::Hit(yes),
             RowLook::Miss(version) => versions[i] = version,
         }
     }
     Find::Miss(Miss {
-        region,
-        home,
+        region: first.region,
+        home: first.home,
         versions,
     })
 }

@@ -45,6 +45,6 @@ mod probing;
 mod putting;
 mod regions;
 
-pub use finding::{First, find, probe_first, probe_others};
+pub use finding::{First, FirstMiss, find, probe_first, probe_others};
 pub use putting::put;
 pub use vsd_trails::{Find, Lost, Miss, Put};

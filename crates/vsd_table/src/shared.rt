@@ -159,8 +159,7 @@ fn cast_row(region: u16, row: u32) -> usize
     ensures number { result ≡ cast_row region row }
     ensures few { result < 8192 + row }
 {
-    // (the region's size less that of the first)
-    (128u32 << region) as usize - 128 + row as usize
+    128 * ((1 << region) - 1) + row as usize
 }
 
 /// Which of a row's four words it is.

@@ -37,13 +37,10 @@ impl CellWord {
         requires { (cell : CellWord) × IsCellPacking cell word }
         ensures { IsCellPacking result word }
     {
-        // Dispatch comes first, since most calls find it.
-        if word >= 2 {
-            CellWord::Dispatch((word - 2) as u16)
-        } else if word == 1 {
-            CellWord::Resolve
-        } else {
-            CellWord::Lookup
+        match word {
+            0 => CellWord::Lookup,
+            1 => CellWord::Resolve,
+            _ => CellWord::Dispatch((word - 2) as u16),
         }
     }
 

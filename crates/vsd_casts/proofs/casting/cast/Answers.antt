@@ -26,27 +26,27 @@ returns-in-Hit-clause-world g c = λ number other knows knows'.
     (c.probe_first.ensures.agree c.args.source c.args.target c.in-Hit.yes number other c.in-Hit.ensures.found knows knows')
 
 pub returns-in-Ok-clause-trail : goal.returns-in-Ok-clause-trail
-returns-in-Ok-clause-trail g c = casts_on (key_of c.args.table.now) c.args.source c.args.target c.in-Miss.region c.in-Miss.home c.in-Miss.version _ _ _ (Ok c.in-Ok.answer) c.in-Miss.ensures.begins c.in-Ok.ensures.trail
+returns-in-Ok-clause-trail g c = casts_on (key_of c.args.table.now) c.args.source c.args.target c.in-Miss.first _ _ _ (Ok c.in-Ok.answer) c.in-Miss.ensures.begins c.in-Ok.ensures.trail
 
 pub returns-in-Ok-clause-logged : goal.returns-in-Ok-clause-logged
 returns-in-Ok-clause-logged g c =
     logs_cast (key_of c.args.table.now) c.args.source c.args.target _ _ (Ok c.in-Ok.answer) c.requires.seat.key
-    (casts_on (key_of c.args.table.now) c.args.source c.args.target c.in-Miss.region c.in-Miss.home c.in-Miss.version _ _ _ (Ok c.in-Ok.answer) c.in-Miss.ensures.begins c.in-Ok.ensures.trail)
+    (casts_on (key_of c.args.table.now) c.args.source c.args.target c.in-Miss.first _ _ _ (Ok c.in-Ok.answer) c.in-Miss.ensures.begins c.in-Ok.ensures.trail)
 
 pub returns-in-Ok-clause-tells : goal.returns-in-Ok-clause-tells
 returns-in-Ok-clause-tells g c =
     cast_shown (key_of c.args.table.now) c.args.source c.args.target _ _ (Ok c.in-Ok.answer) c.requires.seat.key
-    (casts_on (key_of c.args.table.now) c.args.source c.args.target c.in-Miss.region c.in-Miss.home c.in-Miss.version _ _ _ (Ok c.in-Ok.answer) c.in-Miss.ensures.begins c.in-Ok.ensures.trail)
+    (casts_on (key_of c.args.table.now) c.args.source c.args.target c.in-Miss.first _ _ _ (Ok c.in-Ok.answer) c.in-Miss.ensures.begins c.in-Ok.ensures.trail)
 
 pub returns-in-Err-clause-trail : goal.returns-in-Err-clause-trail
-returns-in-Err-clause-trail g c = casts_on (key_of c.args.table.now) c.args.source c.args.target c.in-Miss.region c.in-Miss.home c.in-Miss.version _ _ _ (Err c.in-Err.unloaded) c.in-Miss.ensures.begins c.in-Err.ensures.trail
+returns-in-Err-clause-trail g c = casts_on (key_of c.args.table.now) c.args.source c.args.target c.in-Miss.first _ _ _ (Err c.in-Err.unloaded) c.in-Miss.ensures.begins c.in-Err.ensures.trail
 
 pub returns-in-Err-clause-logged : goal.returns-in-Err-clause-logged
 returns-in-Err-clause-logged g c =
     logs_cast (key_of c.args.table.now) c.args.source c.args.target _ _ (Err c.in-Err.unloaded) c.requires.seat.key
-    (casts_on (key_of c.args.table.now) c.args.source c.args.target c.in-Miss.region c.in-Miss.home c.in-Miss.version _ _ _ (Err c.in-Err.unloaded) c.in-Miss.ensures.begins c.in-Err.ensures.trail)
+    (casts_on (key_of c.args.table.now) c.args.source c.args.target c.in-Miss.first _ _ _ (Err c.in-Err.unloaded) c.in-Miss.ensures.begins c.in-Err.ensures.trail)
 
 pub returns-in-Err-clause-tells : goal.returns-in-Err-clause-tells
 returns-in-Err-clause-tells g c =
     cast_shown (key_of c.args.table.now) c.args.source c.args.target _ _ (Err c.in-Err.unloaded) c.requires.seat.key
-    (casts_on (key_of c.args.table.now) c.args.source c.args.target c.in-Miss.region c.in-Miss.home c.in-Miss.version _ _ _ (Err c.in-Err.unloaded) c.in-Miss.ensures.begins c.in-Err.ensures.trail)
+    (casts_on (key_of c.args.table.now) c.args.source c.args.target c.in-Miss.first _ _ _ (Err c.in-Err.unloaded) c.in-Miss.ensures.begins c.in-Err.ensures.trail)

@@ -15,7 +15,7 @@ invariant-loop-i l =
       seat : Belongs l.table l.hand.seated;
       begun : 1 ≤ l.i;
       eight : length l.versions ≡ 8;
-      leads : (rest : ℕ) → l.i + rest ≡ 8 → Leads l.initial.hand.seated (probing l.source l.target l.region l.home 7 1 (l.first ∷ [])) l.hand.seated (probing l.source l.target l.region l.home rest l.i (take l.i l.versions));
+      leads : (rest : ℕ) → l.i + rest ≡ 8 → Leads l.initial.hand.seated (probing l.source l.target l.first.region l.first.home 7 1 (l.first.version ∷ [])) l.hand.seated (probing l.source l.target l.first.region l.first.home rest l.i (take l.i l.versions));
       changes : LooksAtCasts v w;
       agree : 1 < l.i → CastsAgree w;
     }

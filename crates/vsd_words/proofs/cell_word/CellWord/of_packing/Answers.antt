@@ -7,7 +7,7 @@ overflow_cast-result c =
     let below : c.args.word < 1026 = cell_packing-below c.args.word c.requires.0 c.requires.1 in
     omega arith
 
-pub returns-then-word-ge2 : goal.returns-then-word-ge2
-returns-then-word-ge2 c =
+pub returns-in_default : goal.returns-in_default
+returns-in_default c =
     let below : c.args.word < 1026 = cell_packing-below c.args.word c.requires.0 c.requires.1 in
     record { in_range = omega arith; packed = omega arith }
