@@ -5,5 +5,3 @@
 mod checking;
 #[cfg(test)]
 mod scripts;
-#[cfg(test)]
-mod selecting;
