@@ -1,7 +1,7 @@
 //! Casts over the shared table, answered by many callers at once.
 //!
 //! [`cast`] answers whether the type that one handle names is compatible with the type of another (ECMA-335, I.8.7). It takes
-//! the answer from the first of these that has it, as CoreCLR's cast helpers do:
+//! the answer from the first of these that has it, as the cast helpers of CoreCLR do over its CastCache:
 //!
 //! - the cast cache: a row that holds the pair;
 //! - the types' tables, by way of a resolver: the types are those that the two handle words name, if both are loaded. The
