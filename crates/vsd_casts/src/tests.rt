@@ -7,7 +7,7 @@ ghost use Rattle.vsd_casts.specs.Ladders.{ladder, ladder_of_bits};
 use super::*;
 use std::alloc::{AllocError, Global};
 use std::test::Fail;
-use vsd_ccache::{Find, Put, find, put};
+use vsd_ccache::{Find, Lost, Put, find, put};
 use vsd_handles::type_of;
 use vsd_rows::Hand;
 use vsd_table::{Resolver, Seated, Shared, Sizes, layout};
@@ -67,14 +67,22 @@ impl Opened {
         find(&self.table, &mut self.hand, source, target)
     }
 
-    /// Puts the pair's answer into the cache, where it misses.
-    fn put_missed(&mut self, source: Handle, target: Handle) -> Result<Option<Put>, Unloaded>
+    /// Puts the pair's answer into the cache, where it misses; as if all eight rows had this version, where one is given.
+    fn put_missed(
+        &mut self,
+        source: Handle,
+        target: Handle,
+        version: Option<u64>,
+    ) -> Result<Option<Put>, Unloaded>
         requires source { (source.row < 12) × (source.generation ≡ 1) }
         requires target { (target.row < 12) × (target.generation ≡ 1) }
     {
-        let Find::Miss(miss) = find(&self.table, &mut self.hand, source, target) else {
+        let Find::Miss(mut miss) = find(&self.table, &mut self.hand, source, target) else {
             return Ok(None);
         };
+        if let Some(version) = version {
+            miss.versions = [version; 8];
+        }
         let number = type_of(&self.table, &mut self.hand, source)?;
         let other = type_of(&self.table, &mut self.hand, target)?;
         let yes = is_below(number, other);
@@ -132,7 +140,7 @@ fn all_pairs_of_twelve_hosts_find_a_row(rt: HostRuntime) -> Result<(), Fail> {
     let mut opened = open(rt.alloc())?.ok_or("one seat")?;
     let (mut grew, mut written) = (0u64, 0u64);
     for pair in 0..144u16 {
-        match opened.put_missed(host(pair / 12), host(pair % 12)) {
+        match opened.put_missed(host(pair / 12), host(pair % 12), None) {
             Ok(Some(Put::Grew)) => grew = grew.wrapping_add(1),
             Ok(Some(Put::Written)) => written = written.wrapping_add(1),
             _ => {}
@@ -148,5 +156,29 @@ fn all_pairs_of_twelve_hosts_find_a_row(rt: HostRuntime) -> Result<(), Fail> {
         }
     }
     assert!(rt; hits > 0 && hits < 144);
+    Ok(())
+}
+
+#[test]
+fn a_version_at_its_end_is_written_no_more(rt: HostRuntime) -> Result<(), Fail> {
+    const END: u64 = 1 << 62;
+    let mut opened = open(rt.alloc())?.ok_or("one seat")?;
+    let (t, u) = (host(3), host(1));
+    // In the first of the two regions the next one is taken into use instead.
+    assert_eq!(rt; opened.put_missed(t, u, Some(END)), Ok(Some(Put::Grew)));
+    assert_eq!(rt;
+        opened.put_missed(t, u, Some(END)),
+        Ok(Some(Put::Nothing(Lost::Busy(END))))
+    );
+    assert_eq!(rt;
+        opened.put_missed(t, u, Some(END - 1)),
+        Ok(Some(Put::Nothing(Lost::Busy(END - 1))))
+    );
+    // Below its end a version is tried, and here the row's is another.
+    assert_eq!(rt;
+        opened.put_missed(t, u, Some(END - 2)),
+        Ok(Some(Put::Nothing(Lost::Claim(0))))
+    );
+    assert_eq!(rt; opened.put_missed(t, u, None), Ok(Some(Put::Written)));
     Ok(())
 }

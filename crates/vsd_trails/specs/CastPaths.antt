@@ -1,6 +1,7 @@
 -- What the answer of a cast tells of its trail: a probe that hit, or that none did.
-use Rattle.std.specs.Prelude.{◌≡◌, ◌⊎◌, ℕ, ◌<◌, Bool, true, false, List, [], ◌∷◌, Result, Ok, Err}
+use Rattle.std.specs.Prelude.{◌≡◌, ◌≢◌, ◌⊎◌, ℕ, ◌<◌, ◌%◌, Bool, true, false, List, [], ◌∷◌, Result, Ok, Err}
 use Rattle.vsd_words.specs.declared.handle.Handle.{Handle}
+use Rattle.vsd_words.specs.declared.cast_word.CastWord.{CastWord}
 use Rattle.vsd_words.specs.Hash.{home_of}
 use Rattle.vsd_rule.specs.declared.step.Act.{Act}
 use Rattle.vsd_rule.specs.declared.step.Act.TheVariants.{LoadVersion, LoadSource, LoadCast, LoadVersionAgain, LoadRegion}
@@ -15,6 +16,14 @@ use Rattle.vsd_trails.specs.CallPaths.{InTurn, ShowsUnloaded}
 -- the four loads of a probe: version, source, cast word, and version again
 abbrev pub probe_loads : ℕ → ℕ → ℕ → ℕ → ℕ → ℕ → List (Act × ℕ)
 probe_loads region row version packed word again = (LoadVersion region row, version) ∷ (LoadSource region row, packed) ∷ (LoadCast region row, word) ∷ (LoadVersionAgain region row, again) ∷ []
+
+-- both versions are the same, even and not 0, and the source and the target are the pair's
+pub record HoldsCast (source target : Handle) (version : ℕ) (s : Handle) (w : CastWord) (again : ℕ) : Type 0 where
+  pub same : version ≡ again
+  pub even : version % 2 ≡ 0
+  pub written : version ≢ 0
+  pub source_is : s ≡ source
+  pub target_is : w.target ≡ target
 
 -- a probe of the region that was loaded is a hit, and its cast word has the answer
 pub record ShowsHit (source target : Handle) (trail : List TrailStep) (answer : Bool) : Type 0 where

@@ -1,6 +1,7 @@
 //! What holds of the operations. Each law is a function that does nothing and ensures it.
-ghost use Rattle.std.specs.Prelude.{◌⊎◌, ℕ, ◌+◌, ◌*◌, ◌<◌, List, [], ◌∷◌, Result, Ok, Err};
+ghost use Rattle.std.specs.Prelude.{◌≡◌, ◌↔◌, ◌⊎◌, true, ℕ, ◌+◌, ◌*◌, ◌<◌, List, [], ◌∷◌, Result, Ok, Err};
 ghost use Rattle.vsd_words.specs.declared.handle.Handle.{Handle};
+ghost use Rattle.vsd_words.specs.declared.cast_word.CastWord.{CastWord};
 ghost use Rattle.vsd_rule.specs.declared.key.Key.{Key};
 ghost use Rattle.vsd_rule.specs.declared.step.Act.TheVariants.{LoadCell};
 ghost use Rattle.vsd_rule.specs.declared.step.Doing.TheVariants.{Nothing};
@@ -11,12 +12,12 @@ ghost use Rattle.vsd_trails.specs.declared.answers.Unloaded.{Unloaded};
 ghost use Rattle.vsd_trails.specs.Programs.{Fields, TrailStep, Runs};
 ghost use Rattle.vsd_trails.specs.RowTrails.{pinning, unpinning, typing, sweeping};
 ghost use Rattle.vsd_trails.specs.CallTrails.{by_walk, calling};
-ghost use Rattle.vsd_trails.specs.CastTrails.{casting};
+ghost use Rattle.vsd_trails.specs.CastTrails.{casting, is_hit};
 ghost use Rattle.vsd_trails.specs.UnloadTrails.{binding, unloading};
 ghost use Rattle.vsd_trails.specs.Operations.{called, cast_to, loaded, unloaded};
 ghost use Rattle.vsd_trails.specs.Laws.{HasOneLog, AddsEntry, AddsNothing, TakesAtMost};
 ghost use Rattle.vsd_trails.specs.CallPaths.{InTurn, PathTells, ShowsUnloaded, HoldsPair};
-ghost use Rattle.vsd_trails.specs.CastPaths.{CastAnswerTells, HasNoHit};
+ghost use Rattle.vsd_trails.specs.CastPaths.{CastAnswerTells, HasNoHit, HoldsCast};
 ghost use Rattle.vsd_trails.specs.Attempts.{TriesBucket, TriesCell, SweepsAtEnd, PurgesCell, PurgesBucket};
 
 /// A list of steps has at most one log.
@@ -67,6 +68,13 @@ pub fn cast_tells()
         Runs k f (casting k source target) trail (Ok a) → CastAnswerTells source target trail a.yes a.walked }
     ensures unloaded { (k : Key) (source target : Handle) (f : Fields) (trail : List TrailStep) (u : Unloaded) →
         Runs k f (casting k source target) trail (Err u) → HasNoHit source target trail × (ShowsUnloaded source trail u ⊎ ShowsUnloaded target trail u) }
+{}
+
+/// What a probe's hit is: both versions that it loaded are the same, even and not 0, and the row's source and target are
+/// the pair's.
+pub fn hits_exactly()
+    ensures { (source target : Handle) (version : ℕ) (s : Handle) (w : CastWord) (again : ℕ) →
+        is_hit source target version s w again ≡ true ↔ HoldsCast source target version s w again }
 {}
 
 /// What a call tries besides. A walk swaps its pair into the pair's bucket, but where limbo has no room or no row is given.
