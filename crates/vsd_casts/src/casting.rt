@@ -63,16 +63,47 @@ pub fn cast<R: Resolver>(
 {
     match probe_first(table, hand, source, target) {
         First::Hit(yes) => Ok(CastAnswer { yes, walked: false }),
-        // The answer is taken apart, so that only this arm has it in memory.
-        First::Miss(first) => match look_on(table, resolver, hand, first, source, target) {
-            Ok(answer) => Ok(answer),
-            Err(unloaded) => Err(unloaded),
-        },
+        First::Miss(first) => go_on(table, resolver, hand, first, source, target),
     }
 }
 
-/// Answers a cast whose first probe missed. Most casts don't come here, and what it keeps on the stack would be cleared by
-/// each of them.
+/// Hands a cast whose first probe missed on. What a function has in memory is cleared where it begins, also where it is
+/// compiled into its caller: so it is a function of its own, to which a hit does not come, and it takes the answer apart.
+#[inline(always)]
+fn go_on<R: Resolver>(
+    table: &Shared,
+    resolver: &R,
+    hand: &mut Hand,
+    first: FirstMiss,
+    source: Handle,
+    target: Handle,
+) -> Result<CastAnswer, Unloaded>
+    requires seat { Belongs table.now hand.old.seated }
+    requires types { (key_of table.now).world.types ≡ R.types resolver.now }
+    requires cmp { (key_of table.now).world.cmp ≡ R.cmp resolver.now }
+    requires source { HandleInRange source }
+    requires source_row { source.row < handle_rows (key_of table.now).sizes }
+    requires some_source { 0 < source.generation }
+    requires target { HandleInRange target }
+    requires target_row { target.row < handle_rows (key_of table.now).sizes }
+    requires some_target { 0 < target.generation }
+    requires first { IsFirstMissOf (key_of table.now) source target first }
+    ensures trail { EndsLook hand.old.seated hand.new.seated (key_of table.now) source target first result }
+    ensures complete { IsSure (view_of hand.old.seated) source → IsSure (view_of hand.old.seated) target → IsOk result }
+    ensures cause { IfErr result (λ u. ¬ IsSure (view_of hand.old.seated) u.handle) }
+    ensures evidence { IfOk result (λ a. HasCastEvidence (view_of hand.new.seated) source target a.yes) }
+    ensures world { IfOk result (λ a. (number other : ℕ) → Knows (view_of hand.new.seated).handles source number
+        → Knows (view_of hand.new.seated).handles target other → from_bool a.yes ≡ compatible (key_of table.now) number other) }
+    ensures stays { Stays (view_of hand.old.seated) (view_of hand.new.seated) }
+    ensures seat { Belongs table.now hand.new.seated }
+{
+    match look_on(table, resolver, hand, first, source, target) {
+        Ok(answer) => Ok(answer),
+        Err(unloaded) => Err(unloaded),
+    }
+}
+
+/// Answers a cast whose first probe missed. Most casts don't come here.
 #[inline(never)]
 fn look_on<R: Resolver>(
     table: &Shared,

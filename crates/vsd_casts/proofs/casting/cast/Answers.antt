@@ -1,4 +1,4 @@
-use Rattle.std.proofs.Common.{◌≡◌, Ok, Err, subst}
+use Rattle.std.proofs.Common.{◌≡◌, subst}
 use Rattle.vsd_rule.specs.declared.key.Key.{Key}
 use Rattle.vsd_rule.specs.Lists.{compatible}
 use Rattle.std.specs.Int.{from_bool}
@@ -25,28 +25,15 @@ returns-in-Hit-clause-world g c = λ number other knows knows'.
     subst (λ (k : Key). from_bool c.in-Hit.yes ≡ compatible k number other) c.probe_first.ensures.seat.key
     (c.probe_first.ensures.agree c.args.source c.args.target c.in-Hit.yes number other c.in-Hit.ensures.found knows knows')
 
-pub returns-in-Ok-clause-trail : goal.returns-in-Ok-clause-trail
-returns-in-Ok-clause-trail g c = casts_on (key_of c.args.table.now) c.args.source c.args.target c.in-Miss.first _ _ _ (Ok c.in-Ok.answer) c.in-Miss.ensures.begins c.in-Ok.ensures.trail
+pub returns-in-Miss-clause-trail : goal.returns-in-Miss-clause-trail
+returns-in-Miss-clause-trail g c = casts_on (key_of c.args.table.now) c.args.source c.args.target c.in-Miss.first _ _ _ c.go_on.result c.in-Miss.ensures.begins c.go_on.ensures.trail
 
-pub returns-in-Ok-clause-logged : goal.returns-in-Ok-clause-logged
-returns-in-Ok-clause-logged g c =
-    logs_cast (key_of c.args.table.now) c.args.source c.args.target _ _ (Ok c.in-Ok.answer) c.requires.seat.key
-    (casts_on (key_of c.args.table.now) c.args.source c.args.target c.in-Miss.first _ _ _ (Ok c.in-Ok.answer) c.in-Miss.ensures.begins c.in-Ok.ensures.trail)
+pub returns-in-Miss-clause-logged : goal.returns-in-Miss-clause-logged
+returns-in-Miss-clause-logged g c =
+    logs_cast (key_of c.args.table.now) c.args.source c.args.target _ _ c.go_on.result c.requires.seat.key
+    (casts_on (key_of c.args.table.now) c.args.source c.args.target c.in-Miss.first _ _ _ c.go_on.result c.in-Miss.ensures.begins c.go_on.ensures.trail)
 
-pub returns-in-Ok-clause-tells : goal.returns-in-Ok-clause-tells
-returns-in-Ok-clause-tells g c =
-    cast_shown (key_of c.args.table.now) c.args.source c.args.target _ _ (Ok c.in-Ok.answer) c.requires.seat.key
-    (casts_on (key_of c.args.table.now) c.args.source c.args.target c.in-Miss.first _ _ _ (Ok c.in-Ok.answer) c.in-Miss.ensures.begins c.in-Ok.ensures.trail)
-
-pub returns-in-Err-clause-trail : goal.returns-in-Err-clause-trail
-returns-in-Err-clause-trail g c = casts_on (key_of c.args.table.now) c.args.source c.args.target c.in-Miss.first _ _ _ (Err c.in-Err.unloaded) c.in-Miss.ensures.begins c.in-Err.ensures.trail
-
-pub returns-in-Err-clause-logged : goal.returns-in-Err-clause-logged
-returns-in-Err-clause-logged g c =
-    logs_cast (key_of c.args.table.now) c.args.source c.args.target _ _ (Err c.in-Err.unloaded) c.requires.seat.key
-    (casts_on (key_of c.args.table.now) c.args.source c.args.target c.in-Miss.first _ _ _ (Err c.in-Err.unloaded) c.in-Miss.ensures.begins c.in-Err.ensures.trail)
-
-pub returns-in-Err-clause-tells : goal.returns-in-Err-clause-tells
-returns-in-Err-clause-tells g c =
-    cast_shown (key_of c.args.table.now) c.args.source c.args.target _ _ (Err c.in-Err.unloaded) c.requires.seat.key
-    (casts_on (key_of c.args.table.now) c.args.source c.args.target c.in-Miss.first _ _ _ (Err c.in-Err.unloaded) c.in-Miss.ensures.begins c.in-Err.ensures.trail)
+pub returns-in-Miss-clause-tells : goal.returns-in-Miss-clause-tells
+returns-in-Miss-clause-tells g c =
+    cast_shown (key_of c.args.table.now) c.args.source c.args.target _ _ c.go_on.result c.requires.seat.key
+    (casts_on (key_of c.args.table.now) c.args.source c.args.target c.in-Miss.first _ _ _ c.go_on.result c.in-Miss.ensures.begins c.go_on.ensures.trail)
