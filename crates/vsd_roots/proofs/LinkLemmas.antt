@@ -1,5 +1,5 @@
 -- The latest methods of each name, as methods are put in by rank.
-use Rattle.std.proofs.Common.{◌≡◌, ℕ, ◌+◌, ◌-◌, ◌*◌, ◌<◌, ◌≤◌, Bool, true, false, cond, List, length, get_or, refl, sym, ap, ◌∙◌, subst, Option, Some, None, inl, inr, arith}
+use Rattle.std.proofs.Common.{◌≡◌, ℕ, ◌+◌, ◌-◌, ◌*◌, ◌<◌, ◌≤◌, Bool, true, false, cond, List, length, get_or, refl, sym, ap, ◌∙◌, subst, Option, Some, None, IsSomeAnd, inl, inr, arith}
 use Rattle.std.specs.Bool.{Decides}
 use Rattle.std.specs.Cmp.{unsigned_Decides}
 use Rattle.std.specs.List.{slice_get}
@@ -11,7 +11,7 @@ use Rattle.vsd_ast.specs.declared.declarations.Decl.{Decl}
 use Rattle.vsd_ast.specs.declared.declarations.Method.{Method}
 use Rattle.vsd_lift.specs.Settled.{IsSettled}
 use Rattle.vsd_roots.specs.Methods.{IsMethod}
-use Rattle.vsd_roots.specs.Order.{AreLatest, IsLatest, IsLink, IsShallower, method_rank, rank, same_name}
+use Rattle.vsd_roots.specs.Order.{AreLatest, IsEarlier, IsLatest, IsLink, IsShallower, method_rank, rank, same_name}
 use Rattle.vsd_roots.specs.declared.place.Place.{Place}
 use Rattle.vsd_roots.proofs.TableLemmas.{method_within, same_method}
 
@@ -116,6 +116,60 @@ module _ (ds : List Decl) (places depths : List ℕ) (settled : IsSettled ds pla
         is_method = is;
         latest = subst (λ (o : Option Place). P m.name (method_rank depths p) o) (sym found) (subst (λ (n : ℕ). P m.name n (find k)) (sym here) (subst (λ (name : List ℕ). P name bound (find k)) key (latest.each k)));
       }
+
+  -- what comes before a declaration, by what comes before one of its methods
+  pub earlier-step : (p : Place) (m : Method) (before found : Option Place) (row : List (Option Place)) → IsMethod ds p m → IsLink ds depths p before
+      → ((q : Place) (n : Method) → q.decl ≡ p.decl → p.method < q.method → IsMethod ds q n → IsSomeAnd (slice_get row q.method) (IsEarlier ds depths q))
+      → ((q : Place) → before ≡ Some q → q.decl ≡ p.decl → slice_get row q.method ≡ Some found)
+      → (((q : Place) → before ≡ Some q → q.decl ≡ p.decl → ⊥) → found ≡ before)
+      → IsEarlier ds depths p found
+  earlier-step p m None found row is link done own other =
+      let none : found ≡ None = other (λ q e. absurd cc) in
+      let within = method_within ds places depths p link.method settled link.is_method in
+      let limit = within.method in
+      let P : Option Place → Type 0 = λ o. IsEarlier ds depths p o in
+      subst P (sym none) (record {
+        method = link.method;
+        is_method = link.is_method;
+        latest = record { is = tt; latest = λ r n isr name below. link.latest.latest r n isr name (omega arith) };
+      })
+  earlier-step p m (Some q) found row is link done own other =
+      let w = link.latest.is in
+      let below = w.1.1.1 in
+      let a = method_within ds places depths p link.method settled link.is_method in
+      let b = method_within ds places depths q w.0 settled w.1.0 in
+      let a_method = a.method in
+      let b_method = b.method in
+      elim (cases_eq q.decl p.decl) [
+        | inl same ↦ (
+            let ranks : rank depths q.decl ≡ rank depths p.decl = ap (rank depths) same in
+            let later : p.method < q.method = omega arith in
+            let e : IsEarlier ds depths q found = subst (λ (o : Option (Option Place)). IsSomeAnd o (IsEarlier ds depths q)) (own q refl same) (done q w.0 same later w.1.0) in
+            let one = same_method ds q q e.method w.0 refl refl e.is_method w.1.0 in
+            let P : List ℕ → ℕ → Type 0 = λ name n. IsLatest ds depths name (n * 256) found in
+            record {
+              method = link.method;
+              is_method = link.is_method;
+              latest = subst (λ (n : ℕ). P link.method.name n) ranks (subst (λ (name : List ℕ). P name (rank depths q.decl)) (ap (λ (x : Method). x.name) one ∙ w.1.1.0) e.latest);
+            }
+            )
+        | inr differ ↦ (
+            let kept : found ≡ Some q = other (λ r e decl. differ (let one : q ≡ r = cc in ap (λ (x : Place). x.decl) one ∙ decl)) in
+            let lower : rank depths q.decl < rank depths p.decl = elim (cases_lt (rank depths q.decl) (rank depths p.decl)) [
+              | inl lt ↦ lt
+              | inr ge ↦ absurd (differ (decl_of_rank q.decl p.decl b.declared a.declared (omega arith)))
+            ] in
+            let P : Option Place → Type 0 = λ o. IsEarlier ds depths p o in
+            subst P (sym kept) (record {
+              method = link.method;
+              is_method = link.is_method;
+              latest = record {
+                is = (w.0, (w.1.0, (w.1.1.0, omega arith)));
+                latest = λ r n isr name under. link.latest.latest r n isr name (omega arith);
+              };
+            })
+            )
+      ]
 
   -- what is found of a name, where the methods of the less deep declarations are in
   pub IsShallower-found : (find : Bor (List ℕ) → Option Place) (bound : ℕ) (p : Place) (m : Method) (k : Bor (List ℕ)) (before : Option Place) → IsMethod ds p m → 1024 * get_or depths p.decl 0 * 256 ≡ bound → k.now ≡ m.name → before ≡ find k → AreLatest ds depths bound find → IsShallower ds depths p before

@@ -16,10 +16,10 @@ use Rattle.vsd_lift.specs.Settled.{IsSettled}
 use Rattle.vsd_lift.proofs.ChainLemmas.{chain-deeper, chain-room}
 use Rattle.vsd_roots.specs.Levels.{IsStart, IsUpward}
 use Rattle.vsd_roots.specs.Methods.{IsMethod}
-use Rattle.vsd_roots.specs.Order.{IsLatest, IsLink, IsShallower, method_rank, rank}
+use Rattle.vsd_roots.specs.Order.{IsEarlier, IsLatest, IsLink, IsShallower, method_rank, rank}
 use Rattle.vsd_roots.specs.Slots.{HasMatch, IsNearest, Matches}
 use Rattle.vsd_roots.specs.declared.place.Place.{Place}
-use Rattle.vsd_roots.proofs.LinkLemmas.{one_of_rank}
+use Rattle.vsd_roots.proofs.LinkLemmas.{decl_of_rank, one_of_rank}
 use Rattle.vsd_roots.proofs.TableLemmas.{method_within, same_method}
 
 pub same_place : (p q : Place) → p.decl ≡ q.decl → p.method ≡ q.method → p ≡ q
@@ -80,6 +80,30 @@ module _ (ds : List Decl) (places depths chain : List ℕ) (settled : IsSettled 
                   let ranks : method_rank depths r ≡ method_rank depths q = omega arith in
                   let where_ = one_of_rank ds places depths settled r q other.other named.0 ranks other.is_other named.1.0 in
                   absurd (none l (subst (λ (p : Place). Matches ds chain m l p) (same_place r q where_.0 where_.1) other))
+                  )
+            ];
+      }
+
+  -- a declaration that isn't above is left at once
+  pub nearest_earlier : (q : Place) (before : Option Place) → IsStart ds depths chain m (Some q) → IsEarlier ds depths q before → ((level : ℕ) → slice_get chain level ≡ Some q.decl → 0 < level → ⊥) → IsStart ds depths chain m before
+  nearest_earlier q before start link out =
+      let named = start.latest.is in
+      let one = same_method ds q q link.method named.0 refl refl link.is_method named.1.0 in
+      let P : List ℕ → Type 0 = λ name. IsLatest ds depths name (rank depths q.decl * 256) before in
+      let a = method_within ds places depths q named.0 settled named.1.0 in
+      record {
+        bound = rank depths q.decl * 256;
+        latest = subst P (ap (λ (x : Method). x.name) one ∙ named.1.1.0) link.latest;
+        below = λ l r other.
+            let latest : method_rank depths r ≤ method_rank depths q = start.latest.latest r other.other other.is_other other.name (start.below l r other) in
+            let b = method_within ds places depths r other.other settled other.is_other in
+            let b_method = b.method in
+            elim (cases_lt (rank depths r.decl) (rank depths q.decl)) [
+              | inl lt ↦ omega arith
+              | inr ge ↦ (
+                  let ranks : rank depths r.decl ≡ rank depths q.decl = omega arith in
+                  let same : r.decl ≡ q.decl = decl_of_rank ds places depths settled r.decl q.decl b.declared a.declared ranks in
+                  absurd (out l (other.stands ∙ ap Some same) other.above)
                   )
             ];
       }

@@ -1,5 +1,5 @@
 -- The level of each declaration in a chain.
-use Rattle.std.specs.Prelude.{◌≡◌, ℕ, ◌<◌, List, length, Option, Some, slice_get, slice_index}
+use Rattle.std.specs.Prelude.{◌≡◌, ℕ, ◌+◌, ◌<◌, List, length, Option, Some, None, slice_get, slice_index}
 use Rattle.vsd_ast.specs.declared.declarations.Decl.{Decl}
 use Rattle.vsd_ast.specs.declared.declarations.Method.{Method}
 use Rattle.vsd_lift.specs.Chain.{IsChain}
@@ -28,3 +28,8 @@ pub record IsStart (ds : List Decl) (depths chain : List ℕ) (m : Method) (star
   pub bound : ℕ
   pub latest : IsLatest ds depths m.name bound start
   pub below : (l : ℕ) (r : Place) → Matches ds chain m l r → method_rank depths r < bound
+
+-- how many ranks are left to look at from a method on
+abbrev pub ranks_from : List ℕ → Option Place → ℕ
+ranks_from depths None = 0
+ranks_from depths (Some q) = method_rank depths q + 1

@@ -32,6 +32,12 @@ pub record IsShallower (ds : List Decl) (depths : List ℕ) (p : Place) (before 
   pub is_method : IsMethod ds p method
   pub latest : IsLatest ds depths method.name (1024 * slice_index depths p.decl * 256) before
 
+-- the last method of its name among those of the declarations before its own
+pub record IsEarlier (ds : List Decl) (depths : List ℕ) (p : Place) (before : Option Place) : Type 0 where
+  pub method : Method
+  pub is_method : IsMethod ds p method
+  pub latest : IsLatest ds depths method.name (rank depths p.decl * 256) before
+
 -- what `==` of borrowed names computes
 abbrev pub same_name : Bor (List ℕ) → Bor (List ℕ) → Bool
 same_name a b = pointwise nat_eq a.now b.now

@@ -10,6 +10,7 @@
 #![tactic(auto)]
 
 mod abstracts;
+mod earlier;
 mod finals;
 mod laws;
 mod links;

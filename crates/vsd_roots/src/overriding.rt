@@ -1,14 +1,15 @@
 //! What each virtual method overrides.
-ghost use Rattle.std.specs.Prelude.{◌≡◌, ℕ, ◌<◌, ◌↔◌, All, length, IfOk, IsTrue, MatchOption};
+ghost use Rattle.std.specs.Prelude.{◌≡◌, ℕ, ◌<◌, ◌↔◌, All, length, IfOk, IsTrue, MatchOption, Some};
 ghost use Rattle.vsd_ast.specs.declared.declarations.Method.{Method};
 ghost use Rattle.vsd_lift.specs.Chain.{IsChain};
 ghost use Rattle.vsd_lift.specs.Settled.{IsSettled};
-ghost use Rattle.vsd_roots.specs.Levels.{AreLevels, IsOnce, IsStart, IsUpward};
+ghost use Rattle.vsd_roots.specs.Levels.{AreLevels, IsOnce, IsStart, IsUpward, ranks_from};
 ghost use Rattle.vsd_roots.specs.Methods.{IsMethod, Tabulates, TabulatesRow};
-ghost use Rattle.vsd_roots.specs.Order.{IsLink, IsShallower};
+ghost use Rattle.vsd_roots.specs.Order.{IsEarlier, IsLink, IsShallower};
 ghost use Rattle.vsd_roots.specs.Slots.{HasMatch, IsNearest, IsOverridden, Matches};
 
 use crate::Place;
+use crate::earlier::earlier;
 use crate::links::links;
 use crate::rows::entry_of;
 use sqlite_items::Items;
@@ -54,12 +55,39 @@ fn is_match(
     same_signature_up(&method.signature, h.decls, chain, level, &other.signature)
 }
 
+// Where to look after the method at `at`, which is no match. A declaration that isn't above is left at once.
+fn further(
+    h: &Hierarchy<'_>,
+    chain: &[usize],
+    levels: &[usize],
+    links: &[Items<Option<Place>>],
+    earlier: &[Items<Option<Place>>],
+    method: &Method,
+    at: Place,
+) -> Option<Place>
+    requires settled { IsSettled h.now.decls.now h.now.places.now h.now.depths.now }
+    requires upward { IsUpward h.now.decls.now chain.now }
+    requires levels { AreLevels (length h.now.decls.now) chain.now levels.now }
+    requires links { Tabulates h.now.decls.now (IsLink h.now.decls.now h.now.depths.now) links.now }
+    requires earlier { Tabulates h.now.decls.now (IsEarlier h.now.decls.now h.now.depths.now) earlier.now }
+    requires start { IsStart h.now.decls.now h.now.depths.now chain.now method.now (Some at) }
+    requires other { (level : ℕ) → Matches h.now.decls.now chain.now method.now level at → ⊥ }
+    ensures start { IsStart h.now.decls.now h.now.depths.now chain.now method.now result }
+    ensures lower { ranks_from h.now.depths.now result < ranks_from h.now.depths.now (Some at) }
+{
+    if levels[at.decl as usize] > 0 {
+        return entry_of(links, at);
+    }
+    entry_of(earlier, at)
+}
+
 // The nearest match, among the methods of the name from `start` on.
 fn nearest(
     h: &Hierarchy<'_>,
     chain: &[usize],
     levels: &[usize],
     links: &[Items<Option<Place>>],
+    earlier: &[Items<Option<Place>>],
     method: &Method,
     start: Option<Place>,
 ) -> Option<Place>
@@ -67,6 +95,7 @@ fn nearest(
     requires upward { IsUpward h.now.decls.now chain.now }
     requires levels { AreLevels (length h.now.decls.now) chain.now levels.now }
     requires links { Tabulates h.now.decls.now (IsLink h.now.decls.now h.now.depths.now) links.now }
+    requires earlier { Tabulates h.now.decls.now (IsEarlier h.now.decls.now h.now.depths.now) earlier.now }
     requires start { IsStart h.now.decls.now h.now.depths.now chain.now method.now start }
     ensures { MatchOption result (HasMatch h.now.decls.now chain.now method.now → ⊥)
         (IsNearest h.now.decls.now chain.now method.now) }
@@ -76,7 +105,7 @@ fn nearest(
         if is_match(h, chain, levels, method, at) {
             return Some(at);
         }
-        next = entry_of(links, at);
+        next = further(h, chain, levels, links, earlier, method, at);
     }
     None
 }
@@ -87,6 +116,7 @@ fn overridden_by(
     chain: &[usize],
     levels: &[usize],
     links: &[Items<Option<Place>>],
+    earlier: &[Items<Option<Place>>],
     shallower: &[Items<Option<Place>>],
     place: Place,
     method: &Method,
@@ -95,6 +125,7 @@ fn overridden_by(
     requires chained { IsChain h.now.decls.now place.decl chain.now }
     requires levels { AreLevels (length h.now.decls.now) chain.now levels.now }
     requires links { Tabulates h.now.decls.now (IsLink h.now.decls.now h.now.depths.now) links.now }
+    requires earlier { Tabulates h.now.decls.now (IsEarlier h.now.decls.now h.now.depths.now) earlier.now }
     requires shallower { Tabulates h.now.decls.now (IsShallower h.now.decls.now h.now.depths.now) shallower.now }
     requires is { IsMethod h.now.decls.now place method.now }
     ensures { IsOverridden h.now.decls.now place result }
@@ -103,7 +134,7 @@ fn overridden_by(
         return None;
     }
     let start = entry_of(shallower, place);
-    nearest(h, chain, levels, links, method, start)
+    nearest(h, chain, levels, links, earlier, method, start)
 }
 
 // What each method of one declaration overrides.
@@ -111,12 +142,14 @@ fn overridden_row(
     alloc: Global,
     h: &Hierarchy<'_>,
     links: &[Items<Option<Place>>],
+    earlier: &[Items<Option<Place>>],
     shallower: &[Items<Option<Place>>],
     at: usize,
 ) -> Result<Items<Option<Place>>, AllocError>
     requires settled { IsSettled h.now.decls.now h.now.places.now h.now.depths.now }
     requires within { at < length h.now.decls.now }
     requires links { Tabulates h.now.decls.now (IsLink h.now.decls.now h.now.depths.now) links.now }
+    requires earlier { Tabulates h.now.decls.now (IsEarlier h.now.decls.now h.now.depths.now) earlier.now }
     requires shallower { Tabulates h.now.decls.now (IsShallower h.now.decls.now h.now.depths.now) shallower.now }
     ensures { IfOk result (TabulatesRow h.now.decls.now (IsOverridden h.now.decls.now) at) }
 {
@@ -134,6 +167,7 @@ fn overridden_row(
             upward.as_slice(),
             levels.as_slice(),
             links,
+            earlier,
             shallower,
             place,
             &methods[method],
@@ -155,12 +189,14 @@ pub fn overridden(
     ensures { IfOk result (Tabulates h.now.decls.now (IsOverridden h.now.decls.now)) }
 {
     let linked = links(alloc, h)?;
+    let before_class = earlier(alloc, h, linked.before.as_slice())?;
     let mut rows = Items::new(alloc);
     for at in 0..h.decls.len() {
         let row = overridden_row(
             alloc,
             h,
             linked.before.as_slice(),
+            before_class.as_slice(),
             linked.shallower.as_slice(),
             at,
         )?;

@@ -2,21 +2,14 @@ use Rattle.std.proofs.Common.{◌≡◌, ℕ, ◌<◌, List, Option, Some, None,
 use Rattle.std.proofs.lemmas.Bool.{false≢true}
 use Rattle.vsd_ast.specs.declared.declarations.Decl.{Decl}
 use Rattle.vsd_ast.specs.declared.declarations.Method.{Method}
-use Rattle.vsd_roots.specs.Levels.{IsStart}
-use Rattle.vsd_roots.specs.Order.{IsLink}
+use Rattle.vsd_roots.specs.Levels.{IsStart, ranks_from}
 use Rattle.vsd_roots.specs.declared.place.Place.{Place}
-use Rattle.vsd_roots.proofs.MatchLemmas.{nearest_here, nearest_later, nearest_none}
-use Rattle.vsd_roots.proofs.TableLemmas.{entry_has, some_entry}
-use Rattle.vsd_roots.proofs.overriding.nearest.Invariants.{rank_from}
+use Rattle.vsd_roots.proofs.MatchLemmas.{nearest_here, nearest_none}
 use Rattle.vsd_roots.proofs.overriding.nearest.Goals as goal
 
 -- the start, where it is a method
 start_at : (ds : List Decl) (depths chain : List ℕ) (m : Method) (o : Option Place) (q : Place) → o ≡ Some q → IsStart ds depths chain m o → IsStart ds depths chain m (Some q)
 start_at ds depths chain m o q is start = subst (λ (p : Option Place). IsStart ds depths chain m p) is start
-
-link_below : (ds : List Decl) (depths : List ℕ) (q : Place) (before : Option Place) → IsLink ds depths q before → rank_from depths before < rank_from depths (Some q)
-link_below ds depths q None link = omega arith
-link_below ds depths q (Some r) link = let is = link.latest.is in omega (arith, is.1.1.1)
 
 pub is_match-requires-clause-named : goal.is_match-requires-clause-named
 is_match-requires-clause-named c =
@@ -32,28 +25,18 @@ returns-then-is_match c =
     let found = c.is_match.ensures.0 c.if-is_match.true in
     nearest_here h.decls.now h.places.now h.depths.now c.args.chain.now c.requires.settled c.requires.upward c.args.method.now c.in-Some.at found.0 start found.1
 
-pub entry_of-next-requires : goal.entry_of-next-requires
-entry_of-next-requires c =
+pub further-next-requires-clause-start : goal.further-next-requires-clause-start
+further-next-requires-clause-start c =
     let h = c.args.h.now in
-    let start = start_at h.decls.now h.depths.now c.args.chain.now c.args.method.now c.loop-next.next c.in-Some.at c.in-Some.is c.loop-next.invariant in
-    let is = start.latest.is in
-    some_entry _ _ (c.requires.links.each c.in-Some.at is.0 is.1.0)
+    start_at h.decls.now h.depths.now c.args.chain.now c.args.method.now c.loop-next.next c.in-Some.at c.in-Some.is c.loop-next.invariant
+
+pub further-next-requires-clause-other : goal.further-next-requires-clause-other
+further-next-requires-clause-other c = λ level matches. false≢true (sym c.if-is_match.false ∙ c.is_match.ensures.1 (level, matches))
 
 pub loop-next-smaller : goal.loop-next-smaller
 loop-next-smaller c =
     let h = c.args.h.now in
-    let start = start_at h.decls.now h.depths.now c.args.chain.now c.args.method.now c.loop-next.next c.in-Some.at c.in-Some.is c.loop-next.invariant in
-    let is = start.latest.is in
-    let link = entry_has _ c.entry_of-next.result (IsLink h.decls.now h.depths.now c.in-Some.at) c.entry_of-next.ensures (c.requires.links.each c.in-Some.at is.0 is.1.0) in
-    subst (λ (o : Option Place). rank_from h.depths.now c.entry_of-next.result < rank_from h.depths.now o) (sym c.in-Some.is) (link_below h.decls.now h.depths.now c.in-Some.at c.entry_of-next.result link)
-
-pub loop-next-preserved : goal.loop-next-preserved
-loop-next-preserved c =
-    let h = c.args.h.now in
-    let start = start_at h.decls.now h.depths.now c.args.chain.now c.args.method.now c.loop-next.next c.in-Some.at c.in-Some.is c.loop-next.invariant in
-    let is = start.latest.is in
-    let link = entry_has _ c.entry_of-next.result (IsLink h.decls.now h.depths.now c.in-Some.at) c.entry_of-next.ensures (c.requires.links.each c.in-Some.at is.0 is.1.0) in
-    nearest_later h.decls.now h.places.now h.depths.now c.args.chain.now c.requires.settled c.requires.upward c.args.method.now c.in-Some.at c.entry_of-next.result start link (λ level matches. false≢true (sym c.if-is_match.false ∙ c.is_match.ensures.1 (level, matches)))
+    subst (λ (o : Option Place). ranks_from h.depths.now c.further-next.result < ranks_from h.depths.now o) (sym c.in-Some.is) c.further-next.ensures.lower
 
 pub returns : goal.returns
 returns c =
