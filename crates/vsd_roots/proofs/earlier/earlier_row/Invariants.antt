@@ -1,5 +1,5 @@
 -- The methods from this one on have their entries.
-use Rattle.std.proofs.Common.{◌≡◌, ◌≤◌, length, get_or, IsSomeAnd}
+use Rattle.std.proofs.Common.{◌≡◌, ◌≤◌, length, IsSomeAnd}
 use Rattle.std.specs.List.{slice_get}
 use Rattle.vsd_ast.specs.declared.declarations.Method.{Method}
 use Rattle.vsd_roots.specs.Methods.{IsMethod}

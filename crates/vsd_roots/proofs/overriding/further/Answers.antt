@@ -1,11 +1,10 @@
-use Rattle.std.proofs.Common.{◌≡◌, ℕ, ◌+◌, ◌<◌, List, Option, Some, None, length, get_or, sym, ap, ◌∙◌, subst, arith}
-use Rattle.std.specs.List.{slice_get}
+use Rattle.std.proofs.Common.{ℕ, ◌<◌, List, Option, Some, None, arith}
 use Rattle.vsd_ast.specs.declared.declarations.Decl.{Decl}
 use Rattle.vsd_roots.specs.Levels.{ranks_from}
 use Rattle.vsd_roots.specs.Order.{IsEarlier, IsLink}
 use Rattle.vsd_roots.specs.declared.place.Place.{Place}
 use Rattle.vsd_roots.proofs.MatchLemmas.{nearest_earlier, nearest_later}
-use Rattle.vsd_roots.proofs.TableLemmas.{entry_has, method_within, some_entry}
+use Rattle.vsd_roots.proofs.TableLemmas.{entry_has, method_within}
 use Rattle.vsd_roots.proofs.overriding.further.Goals as goal
 
 link_below : (ds : List Decl) (depths : List ℕ) (q : Place) (before : Option Place) → IsLink ds depths q before → ranks_from depths before < ranks_from depths (Some q)
