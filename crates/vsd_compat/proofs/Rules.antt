@@ -1,8 +1,9 @@
 -- What setting bits by a rule keeps and gives.
-use Rattle.std.proofs.Common.{◌≡◌, ℕ, nat_eq, ◌<◌, Bool, true, false, inl, inr, List, ◌++◌, length, get_or, Contains, Option, Some, None, refl, sym, ap, ◌∙◌, subst, arith}
+use Rattle.std.proofs.Common.{◌≡◌, ℕ, nat_eq, ◌<◌, ◌↔◌, Bool, true, false, inl, inr, List, ◌++◌, length, get_or, Contains, Option, Some, None, refl, sym, ap, ◌∙◌, subst, arith}
 use Rattle.std.specs.List.{slice_get}
 use Rattle.std.specs.Option.{is_some, option_eq, option_to_list}
 use Rattle.std.proofs.lemmas.Bool.{eq-eqb, eqb-true}
+use Rattle.std.proofs.lemmas.List.{get_or-map}
 use Rattle.std.proofs.lemmas.Option.{slice_get-get_or, slice_get_within, get_or_from_slice_get}
 use Rattle.vsd_terms.specs.declared.term.Term.{Term}
 use Rattle.vsd_ast.specs.declared.declarations.Decl.{Decl}
@@ -17,7 +18,7 @@ use Rattle.vsd_types.specs.Types.{args_of, base_of, children, named_of, object, 
 use Rattle.vsd_types.proofs.Declared.{declared-name, declared-place, place_of-within}
 use Rattle.vsd_types.proofs.NumberLemmas.{numbers-at, numbers-length}
 use Rattle.vsd_compat.specs.Compatibility.{AreSameInterface, IsCompatible, IsParameter, Varies, by_variance, equal, covariant, contravariant}
-use Rattle.vsd_compat.specs.Generics.{generic_of, where_interface}
+use Rattle.vsd_compat.specs.Generics.{AreGenerics, IsOneInterface, generic_of, where_interface}
 use Rattle.vsd_compat.specs.Matrices.{Bits, IsSet}
 use Rattle.vsd_compat.specs.Moving.{Adds}
 use Rattle.vsd_compat.specs.Settling.{AreVariantIn, IsSound, VariesIn}
@@ -68,24 +69,51 @@ some_interface false place h = absurd cc
 given_place : (is : Bool) (place : Option ℕ) → is ≡ true → where_interface is place ≡ place
 given_place is place h = ap (λ b. where_interface b place) h
 
--- types with one generic interface are of one interface
-pub same_generic : (ds : List Decl) (t u : Term) → is_some (generic_of ds t) ≡ true → generic_of ds t ≡ generic_of ds u → AreSameInterface ds t u
-same_generic ds t u some same =
-    let of_t = place_of_head ds (head_of t) in
-    let of_u = place_of_head ds (head_of u) in
-    let first : is_interface_type ds t ≡ true = some_interface (is_interface_type ds t) of_t some in
-    let second : is_interface_type ds u ≡ true = some_interface (is_interface_type ds u) of_u (ap is_some (sym same) ∙ some) in
-    record {
-      interface = first;
-      generic = same_head ds (head_of t) (head_of u) first (sym (given_place (is_interface_type ds t) of_t first) ∙ same ∙ given_place (is_interface_type ds u) of_u second);
-    }
+place_is_some : (ds : List Decl) (h : Head) → is_declared_interface (declaration_of_head ds h) ≡ true → is_some (place_of_head ds h) ≡ true
+place_is_some ds (named name) interface = refl
+place_is_some ds (parameter place) interface = absurd cc
+place_is_some ds (built_in b) interface = absurd cc
 
 generic_of_head : List Decl → Head → Option ℕ
 generic_of_head ds h = where_interface (is_declared_interface (declaration_of_head ds h)) (place_of_head ds h)
 
-pub one_generic : (ds : List Decl) (t u : Term) → AreSameInterface ds t u → generic_of ds t ≡ generic_of ds u
-unfolding generic_of_head
-one_generic ds t u same = ap (generic_of_head ds) same.generic
+module _ (ds : List Decl) (t u : Term) where
+  same_generic : IsOneInterface (generic_of ds t) (generic_of ds u) → AreSameInterface ds t u
+  same_generic one =
+      let of_t = place_of_head ds (head_of t) in
+      let of_u = place_of_head ds (head_of u) in
+      let first : is_interface_type ds t ≡ true = some_interface (is_interface_type ds t) of_t one.some in
+      let second : is_interface_type ds u ≡ true = some_interface (is_interface_type ds u) of_u (ap is_some (sym one.one) ∙ one.some) in
+      record {
+        interface = first;
+        generic = same_head ds (head_of t) (head_of u) first (sym (given_place (is_interface_type ds t) of_t first) ∙ one.one ∙ given_place (is_interface_type ds u) of_u second);
+      }
+
+  one_generic : AreSameInterface ds t u → IsOneInterface (generic_of ds t) (generic_of ds u)
+  unfolding generic_of_head
+  one_generic same = record {
+    some = ap is_some (given_place (is_interface_type ds t) (place_of_head ds (head_of t)) same.interface) ∙ place_is_some ds (head_of t) same.interface;
+    one = ap (generic_of_head ds) same.generic;
+  }
+
+  -- two types are of one interface exactly where their places are one interface's
+  pub one_interface : IsOneInterface (generic_of ds t) (generic_of ds u) ↔ AreSameInterface ds t u
+  one_interface = (same_generic, one_generic)
+
+-- what the list has for a type
+generic_at : (c : TypeList) (generics : List (Option ℕ)) → AreGenerics c generics → (t : ℕ) → t < length c.types → get_or generics t None ≡ generic_of c.decls.list (type_at c.types t)
+generic_at c generics are t within =
+    ap (λ l. get_or l t None) are ∙ get_or-map (generic_of c.decls.list) c.types t object None within
+
+-- whether two types are of one interface, by what the list has
+pub listed_interface : (c : TypeList) (generics : List (Option ℕ)) → AreGenerics c generics → (t u : ℕ) → t < length c.types → u < length c.types → IsOneInterface (get_or generics t None) (get_or generics u None) ↔ AreSameInterface c.decls.list (type_at c.types t) (type_at c.types u)
+listed_interface c generics are t u t_in u_in =
+    let found = one_interface c.decls.list (type_at c.types t) (type_at c.types u) in
+    let first = generic_at c generics are t t_in in
+    let second = generic_at c generics are u u_in in (
+      λ one. found.0 (rw (sym second) (rw (sym first) one)),
+      λ same. rw second (rw first (found.1 same)),
+    )
 
 -- ---- numbers
 

@@ -2,7 +2,7 @@
 ghost use Rattle.std.specs.Prelude.{◌≡◌, ◌<◌, ◌↔◌, IfOk, IsTrue, length};
 ghost use Rattle.vsd_types.specs.Types.{type_at};
 ghost use Rattle.vsd_compat.specs.Compatibility.{AreSameInterface};
-ghost use Rattle.vsd_compat.specs.Generics.{AreGenerics, generic_of};
+ghost use Rattle.vsd_compat.specs.Generics.{AreGenerics, IsOneInterface, generic_of};
 
 use std::alloc::{AllocError, Global};
 use vsd_types::Closed;
@@ -29,13 +29,18 @@ fn generic(closed: &Closed, t: u16) -> Option<u16>
     }
 }
 
-/// Whether two types are of one interface.
-pub(crate) fn are_same_interface(_closed: &Closed, generics: &[Option<u16>], t: u16, u: u16) -> bool
-    requires generics { AreGenerics _closed.now generics.now }
-    requires first { t < length _closed.now.types }
-    requires second { u < length _closed.now.types }
-    ensures { IsTrue result ↔ AreSameInterface _closed.now.decls.list (type_at _closed.now.types t) (type_at _closed.now.types u) }
+/// Whether the places of two types' interfaces are of one interface.
+pub(crate) fn is_one_interface(of_t: Option<u16>, of_u: Option<u16>) -> bool
+    ensures { IsTrue result ↔ IsOneInterface of_t of_u }
 {
-    let of_t = generics[usize::from(t)];
-    of_t.is_some() && of_t == generics[usize::from(u)]
+    of_t.is_some() && of_t == of_u
+}
+
+/// Whether two types are of one generic interface, at maybe other arguments. Takes no memory.
+pub fn are_same_generic(closed: &Closed, t: u16, u: u16) -> bool
+    requires first { t < length closed.now.types }
+    requires second { u < length closed.now.types }
+    ensures { IsTrue result ↔ AreSameInterface closed.now.decls.list (type_at closed.now.types t) (type_at closed.now.types u) }
+{
+    is_one_interface(generic(closed, t), generic(closed, u))
 }

@@ -10,6 +10,6 @@ mod relation;
 mod variances;
 mod waking;
 
+pub use generics::are_same_generic;
 pub use laws::compatibility_law;
-pub use relation::are_same_generic;
 pub use variances::Variances;

@@ -3,13 +3,12 @@ ghost use Rattle.std.specs.Prelude.{◌≡◌, ℕ, ◌<◌, ◌↔◌, IsTrue, 
 ghost use Rattle.vsd_types.specs.ClosedList.{IsClosedUnder};
 ghost use Rattle.vsd_types.specs.Numbers.{IsDistinct};
 ghost use Rattle.vsd_types.specs.Types.{type_at};
-ghost use Rattle.vsd_compat.specs.Compatibility.{AreSameInterface};
 ghost use Rattle.vsd_compat.specs.Generics.{AreGenerics};
 ghost use Rattle.vsd_compat.specs.Matrices.{IsSet, bits_of};
 ghost use Rattle.vsd_compat.specs.Moving.{Moves};
 ghost use Rattle.vsd_compat.specs.Settling.{AreVariantIn, HasBase, HasInterfaces, HasVariant, IsSettled, IsSound, VariesIn};
 
-use crate::generics::are_same_interface;
+use crate::generics::is_one_interface;
 use crate::matrix::Matrix;
 use vsd_ast::Sign;
 use vsd_types::Closed;
@@ -49,15 +48,6 @@ fn are_variant(closed: &Closed, matrix: &Matrix, t: u16, u: u16) -> bool
         }
     }
     true
-}
-
-/// Whether two types are of one generic interface, at maybe other arguments. Takes no memory.
-pub fn are_same_generic(closed: &Closed, t: u16, u: u16) -> bool
-    requires first { t < length closed.now.types }
-    requires second { u < length closed.now.types }
-    ensures { IsTrue result ↔ AreSameInterface closed.now.decls.list (type_at closed.now.types t) (type_at closed.now.types u) }
-{
-    closed.is_interface(t) && closed.declaration(t) == closed.declaration(u)
 }
 
 /// Sets what the base of `t` has.
@@ -109,7 +99,7 @@ pub(crate) fn relate(
     ensures sound { IsSound closed.now (bits_of matrix.old) → IsSound closed.now (bits_of matrix.new) }
     ensures settled { result ≡ false → HasVariant closed.now (bits_of matrix.new) t u }
 {
-    if !are_same_interface(closed, generics, t, u) {
+    if !is_one_interface(generics[usize::from(t)], generics[usize::from(u)]) {
         return false;
     }
     if matrix.get(t, u) {

@@ -96,17 +96,18 @@ fn vary(
     if t >= matrix.count {
         return Ok(());
     }
-    vary_from(closed, generics, matrix, agenda, t)?;
-    vary_to(closed, generics, matrix, agenda, t)
+    vary_by(closed, generics, matrix, agenda, t, Sign::Plus)?;
+    vary_by(closed, generics, matrix, agenda, t, Sign::Minus)
 }
 
-// Asks anew what `t` varies to. The row of an argument lets it where the parameter is covariant.
-fn vary_from(
+// Asks anew what the parameters of `t` with a sign let: what `t` varies to, or for `-` what varies to `t`.
+fn vary_by(
     closed: &Closed,
     generics: &[Option<u16>],
     matrix: &mut Matrix,
     agenda: &mut Agenda,
     t: u16,
+    sign: Sign,
 ) -> Result<(), AllocError>
     requires count { matrix.old.count ≡ length closed.now.types }
     requires distinct { IsDistinct closed.now.types }
@@ -115,35 +116,15 @@ fn vary_from(
     requires within { t < matrix.old.count }
     ensures { Improves closed.now matrix.old matrix.new }
 {
-    if !has_sign(closed.signs(t), Sign::Plus) {
+    if !has_sign(closed.signs(t), sign) {
         return Ok(());
     }
     for u in 0..matrix.count {
-        ask(closed, generics, matrix, agenda, t, u)?;
-    }
-    Ok(())
-}
-
-// Asks anew what varies to `t`. The row of an argument lets it where the parameter is contravariant.
-fn vary_to(
-    closed: &Closed,
-    generics: &[Option<u16>],
-    matrix: &mut Matrix,
-    agenda: &mut Agenda,
-    t: u16,
-) -> Result<(), AllocError>
-    requires count { matrix.old.count ≡ length closed.now.types }
-    requires distinct { IsDistinct closed.now.types }
-    requires closed { IsClosedUnder closed.now.decls.list closed.now.types }
-    requires generics { AreGenerics closed.now generics.now }
-    requires within { t < matrix.old.count }
-    ensures { Improves closed.now matrix.old matrix.new }
-{
-    if !has_sign(closed.signs(t), Sign::Minus) {
-        return Ok(());
-    }
-    for u in 0..matrix.count {
-        ask(closed, generics, matrix, agenda, u, t)?;
+        if sign == Sign::Minus {
+            ask(closed, generics, matrix, agenda, u, t)?;
+        } else {
+            ask(closed, generics, matrix, agenda, t, u)?;
+        }
     }
     Ok(())
 }
