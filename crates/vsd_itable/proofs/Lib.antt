@@ -5,5 +5,7 @@ pub mod FoundLaws
 pub mod FillLaws
 pub mod BitLaws
 pub mod SelectLaws
+pub mod ChainLaws
+pub mod AbstractLaws
 pub mod ImplementLaws
 pub mod TableLaws

@@ -1,9 +1,15 @@
 -- What selection comes to, in other words.
-use Rattle.std.specs.Prelude.{◌≡◌, ℕ, ◌<◌, List, Contains, Option, Some, None}
+use Rattle.std.specs.Prelude.{◌≡◌, ℕ, ◌<◌, true, false, List, Contains, Option, Some, None, slice_get}
 use Rattle.vsd_terms.specs.declared.term.Term.{Term}
 use Rattle.vsd_ast.specs.declared.declarations.Decl.{Decl}
+use Rattle.vsd_ast.specs.declared.declarations.Decls.{Decls}
+use Rattle.vsd_ast.specs.declared.declarations.Method.{Method}
+use Rattle.vsd_ast.specs.Hierarchy.{IsHierarchy}
+use Rattle.vsd_check.specs.Conditions.{AreLawful}
+use Rattle.vsd_types.specs.Types.{declaration_of}
+use Rattle.vsd_slots.specs.Methods.{methods_in}
 use Rattle.vsd_slots.specs.Implementation.{Found, IsImplementation}
-use Rattle.vsd_slots.specs.Refusals.{AreAll, method_count}
+use Rattle.vsd_slots.specs.Refusals.{AreAll, is_concrete, method_count}
 use Rattle.vsd_itable.specs.Bodies.{IsUpward}
 use Rattle.vsd_itable.specs.Matching.{IsMatch, Suits}
 use Rattle.vsd_itable.specs.Selection.{IsSelection}
@@ -27,3 +33,7 @@ IsMissingUnanswered = (ds : List Decl) (t j : Term) (m : ℕ) (interfaces : List
 -- a slot whose interface is answered for, and whose method is implemented there, isn't missing
 abbrev pub IsSelectedWhereImplemented : Type 0
 IsSelectedWhereImplemented = (ds : List Decl) (t j i : Term) (m : ℕ) (f : Found) (found : Option Found) → IsMatch ds t j (Some i) → IsImplementation ds t i m (Some f) → IsSelection ds t j m found → (b : Found) × (found ≡ Some b)
+
+-- what is selected in a class that isn't abstract isn't abstract, where declarations are lawful
+abbrev pub NoneAbstract : Type 0
+NoneAbstract = (d : Decls) (depths : List ℕ) → AreLawful d → IsHierarchy d.list depths → (t j : Term) (m : ℕ) (f : Found) (x : Method) → is_concrete d.list t ≡ true → IsSelection d.list t j m (Some f) → slice_get (methods_in (declaration_of d.list f.class)) f.method ≡ Some x → x.is_abstract ≡ false

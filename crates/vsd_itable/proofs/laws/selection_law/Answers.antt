@@ -1,4 +1,5 @@
 use Rattle.vsd_itable.proofs.SelectLaws.{declared-upward, exact-answers, missing-unanswered, selected-where, selection-only}
+use Rattle.vsd_itable.proofs.AbstractLaws.{none-abstract}
 use Rattle.vsd_itable.proofs.laws.selection_law.Goals as goal
 
 pub returns-clause-one : goal.returns-clause-one
@@ -15,3 +16,6 @@ returns-clause-missing c = missing-unanswered
 
 pub returns-clause-selected : goal.returns-clause-selected
 returns-clause-selected c = selected-where
+
+pub returns-clause-concrete : goal.returns-clause-concrete
+returns-clause-concrete c = λ d depths lawful h. none-abstract d depths lawful h
