@@ -9,9 +9,9 @@ use crate::answers::write_for;
 use crate::command::is_command;
 use crate::endings::Ended;
 use crate::statuses::Status;
-use vsd_refusals::Refusal;
 use std::alloc::Global;
 use vsd_outside::{Failed, ReadError, Sink, Source, read_up_to, write_whole};
+use vsd_refusals::Refusal;
 use vsd_text::TEXT_LIMIT;
 
 /// How many bytes are read at most: one more than a text may have.

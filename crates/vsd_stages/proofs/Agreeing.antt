@@ -78,8 +78,8 @@ module _ (v : Value) (tables : AreTables v) (bits : (i : ℕ) → get_or (cmp_of
       let second = subst (λ x. IsTarget v.closed v.methods t x (slot_of v k) number_is) of_interface first in
       let third = subst (λ x. IsTarget v.closed v.methods t j x number_is) of_slot second in
       let text : slot k ≡ method_text v.closed.decls.names v.closed.decls.list j site.slot =
-          slots k below ∙ ap (λ x. method_text v.closed.decls.names v.closed.decls.list x (slot_of v k)) of_interface
-          ∙ ap (method_text v.closed.decls.names v.closed.decls.list j) of_slot in
+      slots k below ∙ ap (λ x. method_text v.closed.decls.names v.closed.decls.list x (slot_of v k)) of_interface
+      ∙ ap (method_text v.closed.decls.names v.closed.decls.list j) of_slot in
       said_target v method slot t j site.slot (slot k) number_is text third (told n k within below)
 
   cast_says : (root other : ℕ) (t u : Term) → slice_get s.roots root ≡ Some t → slice_get s.roots other ≡ Some u

@@ -22,13 +22,13 @@ module _ (ds : List Decl) where
   slot_counted : (t : Term) (slot : ℕ) → HasSlot ds t slot → slot < method_count ds t
   slot_counted t slot has =
       let count : method_count ds t ≡ length has.interface.methods =
-          ap (λ h. length (methods_in (declaration_of_head ds h))) has.head ∙ ap (λ o. length (methods_in o)) has.found in
+      ap (λ h. length (methods_in (declaration_of_head ds h))) has.head ∙ ap (λ o. length (methods_in o)) has.found in
       subst (λ n. slot < n) (sym count) has.within
 
   pub name_slots : (s : Script) → All (NamesMethod ds s.roots) s.sites → NameSlots ds s
   name_slots s names number site t is root =
       let named : NamesMethod ds s.roots site =
-          subst (NamesMethod ds s.roots) (get_or_from_slice_get s.sites number site site is) (names number site (slice_get_within s.sites number site is)) in
+      subst (NamesMethod ds s.roots) (get_or_from_slice_get s.sites number site site is) (names number site (slice_get_within s.sites number site is)) in
       let both : Some named.term ≡ Some t = sym named.root ∙ root in
       let same : named.term ≡ t = cc in
       subst (λ x. site.slot < method_count ds x) same (slot_counted named.term site.slot named.slot)

@@ -70,8 +70,8 @@ module _ (c : TypeList) (s : Script) (types : List ℕ) (numbers : AreNumbers c.
         let (number, within, is) = (is_numbering pairs).used k below in
         let long = length-map s.sites pair_of in
         ⊎_elim (λ (site, inside, there, again). subst (IsToken c)
-            (sym (site_token number site there) ∙ ap (λ n. get_or (tokens_of pairs) n (0, 0)) is)
-            (slot_of_site number site there))
+        (sym (site_token number site there) ∙ ap (λ n. get_or (tokens_of pairs) n (0, 0)) is)
+        (slot_of_site number site there))
         (λ (past, none). absurd (omega (arith, within, long, past))) (slice_get_cases s.sites number).1
 
     -- each token is a slot of a listed type

@@ -52,12 +52,7 @@ fn declared(alloc: Global, text: &[u8], tokens: &[Token]) -> Result<Prepared, St
 }
 
 /// Declarations that are lawful are gone on with.
-fn checked(
-    alloc: Global,
-    text: &[u8],
-    tokens: &[Token],
-    decls: Decls,
-) -> Result<Prepared, Stopped>
+fn checked(alloc: Global, text: &[u8], tokens: &[Token], decls: Decls) -> Result<Prepared, Stopped>
     requires within { All (LiesWithin text.now) tokens.now }
     requires few { length tokens.now ≤ most_tokens }
     requires formed { AreWellFormed decls }

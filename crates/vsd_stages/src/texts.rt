@@ -23,12 +23,7 @@ fn reserve(alloc: Global, texts: &mut Vec<Bytes>, count: usize) -> Result<(), Al
 }
 
 /// Makes the text of a method, where it isn't made yet.
-fn note(
-    alloc: Global,
-    tables: &Tables,
-    texts: &mut Vec<Bytes>,
-    n: u32,
-) -> Result<(), AllocError>
+fn note(alloc: Global, tables: &Tables, texts: &mut Vec<Bytes>, n: u32) -> Result<(), AllocError>
     requires number { n < length tables.now.methods }
     requires right { AreRight tables.now texts.old.items }
     ensures noted { OnOk result (IsNoted tables.now texts.new.items n) }
