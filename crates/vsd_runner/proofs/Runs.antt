@@ -1,13 +1,15 @@
 -- What an outcome says of a run.
-use Rattle.std.proofs.Common.{◌≡◌, ◌≢◌, ℕ, ◌⊎◌, inl, inr, List, length, Option, Some, refl, sym, ap, subst, ◌∙◌, arith}
+use Rattle.std.proofs.Common.{◌≡◌, ◌≢◌, ℕ, ◌⊎◌, inl, inr, ⊎_elim, List, length, Option, Some, refl, sym, ap, subst, ◌∙◌, arith}
 use Rattle.std.specs.Io.KnownBytes.{append_known}
 use Rattle.vsd_outside.specs.Reading.{GivesUpTo}
 use Rattle.vsd_runner.specs.Command.{IsCommand}
 use Rattle.vsd_runner.specs.Answers.{IsAnswer}
+use Rattle.vsd_runner.specs.Written.{Writes}
 use Rattle.vsd_runner.specs.Outcomes.{read_limit, text_read, Defines, EndsAs, ReadCounted, WriteCounted, Headline, Wanted, Outcome}
 use Rattle.vsd_runner.specs.declared.statuses.Status.{Status}
 use Rattle.vsd_runner.specs.declared.statuses.Status.TheVariants.{Done, Words, Refused, ReadFault, WriteFault, Memory}
-use Rattle.vsd_runner.proofs.Texts.{short_of_lexed, read_same}
+use Rattle.vsd_runner.proofs.Answering.{short_of_accepted}
+use Rattle.vsd_runner.proofs.Texts.{read_same}
 
 module _ (words : List (List ℕ)) where
   -- where the words are the command, what a text answers is defined, and nothing else is
@@ -63,11 +65,24 @@ module _ (words : List (List ℕ)) (left_old left_new taken_old taken_new : Opti
   written WriteFault text bytes wanted taken = absurd wanted.defined.1
   written Memory text bytes wanted taken = absurd wanted.defined.1
 
+  -- how a run over a text that was read ended, from how writing for it ended
+  pub outcome_of : (status : Status) (text : List ℕ) → IsCommand words → GivesUpTo read_limit left_old left_new text
+      → Writes text taken_old taken_new unwritten lacks_room status → EndedSo status
+  outcome_of Done text command given (bytes, one, taken) = (text, bytes, wanted_for text Done bytes command given one.found one.only, taken)
+  outcome_of (Refused r) text command given (bytes, one, taken) = (text, bytes, wanted_for text (Refused r) bytes command given one.found one.only, taken)
+  outcome_of WriteFault text command given (status, bytes, one, part, lacks) = (text, status, bytes, wanted_for text status bytes command given one.found one.only, part, lacks)
+  outcome_of Memory text command given wrote = (
+    command,
+    ⊎_elim (λ unwrote. inl unwrote) (λ front. inr (record { text = text; answers = front.answers; given = given; accepted = front.accepted; part = front.part })) wrote,
+  )
+  outcome_of Words text command given wrote = absurd wrote
+  outcome_of ReadFault text command given wrote = absurd wrote
+
   headline_of : EndedSo Done → Headline words left_old left_new taken_old taken_new
   headline_of (text, bytes, wanted, taken) =
       let accepted = wanted.defined.1 in
       let given = wanted.given wanted.defined.0 in
-      let short = short_of_lexed text accepted.tokens accepted.lexed in
+      let short = short_of_accepted text bytes accepted in
       record {
         command = wanted.defined.0;
         text = text;

@@ -2,4 +2,5 @@
 pub mod Command
 pub mod Refusals
 pub mod Answers
+pub mod Written
 pub mod Outcomes

@@ -1,13 +1,14 @@
 -- How a run ends.
-use Rattle.std.specs.Prelude.{◌≡◌, ℕ, ◌+◌, List, length, take, Option, Some, option_map}
+use Rattle.std.specs.Prelude.{◌≡◌, ◌⊎◌, ℕ, ◌+◌, List, length, take, Option, Some, option_map}
 use Rattle.std.specs.Io.KnownBytes.{prepend_known, append_known, IsAtEnd}
 use Rattle.vsd_text.specs.Tokens.{text_limit}
 use Rattle.vsd_outside.specs.Pieces.{TakesPart}
 use Rattle.vsd_outside.specs.Reading.{GivesUpTo}
 use Rattle.vsd_runner.specs.Command.{IsCommand, words_line}
-use Rattle.vsd_runner.specs.Refusals.{refusal_line}
+use Rattle.vsd_lines.specs.Moving.{Front}
+use Rattle.vsd_refusals.specs.Lines.{refusal_line}
+use Rattle.vsd_refusals.specs.declared.refusal.Refusal.{Refusal}
 use Rattle.vsd_runner.specs.Answers.{IsText, IsRefused, IsAnswer}
-use Rattle.vsd_runner.specs.declared.statuses.Refusal.{Refusal}
 use Rattle.vsd_runner.specs.declared.statuses.Status.{Status}
 use Rattle.vsd_runner.specs.declared.statuses.Status.TheVariants.{Words, ReadFault, WriteFault, Memory}
 
@@ -74,6 +75,14 @@ module _ (words : List (List ℕ)) (left_old left_new taken_old taken_new : Opti
     pub defined : Defines words text status bytes
     pub taken : TakesPart taken_old taken_new bytes
 
+  -- memory was out while the answers of an accepted text were written: the sink took a first part of them
+  pub record Interrupted : Type 0 where
+    pub text : List ℕ
+    pub answers : List ℕ
+    pub given : GivesUpTo read_limit left_old left_new text
+    pub accepted : IsText text answers
+    pub part : Front taken_old taken_new answers
+
   -- What a run was to write. That the source wasn't read, that nothing was written, and that the sink wasn't sure of room for so
   -- many bytes are facts that come from outside.
   module _ (unread unwritten : Type 0) (lacks_room : ℕ → Type 0) where
@@ -86,7 +95,7 @@ module _ (words : List (List ℕ)) (left_old left_new taken_old taken_new : Opti
     -- how a run ended
     abbrev pub Outcome : Status → Type 0
     Outcome ReadFault = IsCommand words × unwritten
-    Outcome Memory = IsCommand words × unwritten
+    Outcome Memory = IsCommand words × (unwritten ⊎ Interrupted)
     Outcome WriteFault =
         (text : List ℕ) × (status : Status) × (bytes : List ℕ) × Wanted text status bytes × TakesPart taken_old taken_new bytes × lacks_room (length bytes)
     Outcome status = (text : List ℕ) × (bytes : List ℕ) × Wanted text status bytes × (taken_new ≡ append_known taken_old bytes)

@@ -6,17 +6,17 @@ mod answers;
 mod command;
 mod endings;
 mod in_memory;
-mod refusals;
 mod running;
 mod statuses;
 
 pub use endings::Ended;
 pub use in_memory::run_in_memory;
 pub use running::run;
-pub use statuses::{Refusal, Status, number};
+pub use statuses::{Status, number};
 pub use vsd_outside::{
     Failed, MemorySink, MemorySource, Sink, Source, StdSink, StdSource, SureSource,
 };
+pub use vsd_refusals::Refusal;
 
 #[cfg(test)]
 mod tests;

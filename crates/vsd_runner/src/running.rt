@@ -3,25 +3,28 @@ ghost use Rattle.std.specs.Prelude.{◌≡◌, ◌≢◌, ◌⊎◌, ℕ, ◌<�
 ghost use Rattle.std.specs.Io.KnownBytes.{append_known};
 ghost use Rattle.vsd_outside.specs.Faults.{Rose};
 ghost use Rattle.vsd_runner.specs.Command.{spellings, IsCommand, words_line};
-ghost use Rattle.vsd_runner.specs.Outcomes.{text_read, Defines, EndsAs, ReadCounted, WriteCounted, Headline, Refuses, CutShort, Outcome};
+ghost use Rattle.vsd_runner.specs.Outcomes.{text_read, Defines, EndsAs, ReadCounted, WriteCounted, Headline, Refuses, CutShort, Interrupted, Outcome};
 
-use crate::answers::answer_to;
+use crate::answers::write_for;
 use crate::command::is_command;
 use crate::endings::Ended;
-use crate::statuses::{Refusal, Status};
+use crate::statuses::Status;
 use std::alloc::Global;
 use vsd_outside::{Failed, ReadError, Sink, Source, read_up_to, write_whole};
+use vsd_refusals::Refusal;
 use vsd_text::TEXT_LIMIT;
 
 /// How many bytes are read at most: one more than a text may have.
 const READ_LIMIT: usize = TEXT_LIMIT + 1;
 
 /// Reads the words, then a text from the source to its end or to one byte more than a text may have, and
-/// writes what the text answers, or the line of its first refusal. Nothing is written before that is
-/// known. Words that are no command are answered with `refused words`, and the source isn't read then.
+/// writes what the text answers, or the line of its first refusal. Nothing is written before all answers
+/// are known; then they are written in pages of about 64 KB. Words that are no command are answered with
+/// `refused words`, and the source isn't read then.
 ///
-/// Every way to end is a status. After a read fault, and at want of memory, nothing was written; after a
-/// write fault the sink took a prefix of what was to be written, and not all.
+/// Every way to end is a status. After a read fault nothing was written; after a write fault the sink took
+/// a prefix of what was to be written, and not all; at want of memory nothing, or a first part of the
+/// answers.
 pub fn run<S: Source, K: Sink>(
     alloc: Global,
     words: &[String],
@@ -44,8 +47,9 @@ pub fn run<S: Source, K: Sink>(
         → Rose (K.faults sink.old) (K.faults sink.new)
         × CutShort (spellings words.now) (S.left source.old) (S.left source.new)
         (K.taken sink.old) (K.taken sink.new) }
-    ensures memory { result.status ≡ Status.Memory
-        → IsCommand (spellings words.now) × (sink.new ≡ sink.old) }
+    ensures memory { result.status ≡ Status.Memory → IsCommand (spellings words.now)
+        × ((sink.new ≡ sink.old) ⊎ Interrupted (spellings words.now) (S.left source.old) (S.left source.new)
+        (K.taken sink.old) (K.taken sink.new)) }
 
     // When each must come. A fault is told wherever it is counted: so at every other status both counts
     // are what they were.
@@ -117,11 +121,5 @@ fn status_of<S: Source, K: Sink>(
         Err(ReadError::Failed) => return Status::ReadFault,
         Err(ReadError::Memory) => return Status::Memory,
     };
-    let Ok(answer) = answer_to(alloc, &text) else {
-        return Status::Memory;
-    };
-    match write_whole(sink, &answer.bytes) {
-        Ok(()) => answer.status,
-        Err(Failed) => Status::WriteFault,
-    }
+    write_for(alloc, &text, sink)
 }

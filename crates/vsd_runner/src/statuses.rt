@@ -2,18 +2,7 @@
 ghost use Rattle.std.specs.Prelude.{◌≡◌};
 ghost use Rattle.vsd_runner.specs.Refusals.{number_of};
 
-use vsd_first::DeclError;
-use vsd_text::LexError;
-
-/// Why a text is refused: the error of the reader that refused it, with the line at which it shows. A
-/// refusal that a run carries is never want of memory.
-#[derive(Debug, Drop)]
-pub enum Refusal {
-    /// The text has no tokens.
-    Lex(LexError),
-    /// Its tokens are no declarations.
-    Decl(DeclError),
-}
+use vsd_refusals::Refusal;
 
 /// How a run ended.
 #[derive(Debug, Drop)]
@@ -29,7 +18,7 @@ pub enum Status {
     /// A write failed, and the sink counted it. A prefix of what was to be written was taken, often nothing
     /// and never all.
     WriteFault,
-    /// Want of memory. Nothing was written.
+    /// Want of memory. A first part of the answers was written, often nothing.
     Memory,
 }
 

@@ -1,4 +1,9 @@
 //! Texts from outside with what a run must say of them, and every way in which a read or a write fails.
+mod refusals;
+mod rows;
+mod trials;
+
+use self::trials::Trial;
 use super::*;
 use std::alloc::{AllocError, Global};
 use std::test::Fail;
@@ -11,73 +16,32 @@ const PLAIN: &[u8] = b"vsd 1
 site s = I::M; host a = A; lane { call s a; }
 ";
 
-/// The text that names a class without the interface.
-const NO_INTERFACE: &[u8] = b"vsd 1
+/// The text whose class lacks the interface's method.
+const MISSING: &[u8] = b"vsd 1
 .class interface public abstract I { .method public newslot abstract virtual instance void M() cil managed { } }
-.class public Z { }
+.class public H implements I { }
 %%
-site s = I::M; host a = Z; lane { call s a; }
 ";
 
-const NOT_BUILT: &[u8] = b"refused 0 11 not built\n";
+const MISSING_LINE: &[u8] = b"refused 3 60 missing H I::M\n";
 
-/// A run in memory: its words and its text, the read and the write that fail (0 for none), and the room
-/// for what it writes.
-#[derive(Clone, Copy)]
-struct Trial<'a> {
-    words: &'a [&'a str],
-    text: &'a [u8],
-    failing_read: u64,
-    failing_write: u64,
-    room: usize,
-}
-
-impl<'a> Trial<'a> {
-    fn of(text: &'a [u8]) -> Trial<'a> {
-        Trial {
-            words: &["run"],
-            text,
-            failing_read: 0,
-            failing_write: 0,
-            room: 100,
-        }
-    }
-
-    /// Whether the run ends with this exit status and these bytes.
-    fn gives(&self, alloc: Global, status: u8, output: &[u8]) -> Result<bool, AllocError> {
-        let mut words = Vec::new(alloc);
-        for word in self.words {
-            words.push(String::from_str(alloc, word)?)?;
-        }
-        let reads = vec![in alloc; self.failing_read]?;
-        let writes = vec![in alloc; self.failing_write]?;
-        let mut source = MemorySource::new(self.text.to_vec(alloc)?, 16, reads);
-        let mut sink = MemorySink::new(alloc, self.room, writes)?;
-        let ended = run(alloc, &words, &mut source, &mut sink);
-        Ok(number(&ended.status) == status && sink.bytes() == output)
-    }
-}
-
-/// Each refusal has its line, with the line of the text in decimal.
+/// The line of a text in decimal, and the longest text.
 #[test]
 fn texts(rt: HostRuntime) -> Result<(), Fail> {
     let alloc = rt.alloc();
-    let texts: [(&[u8], u8, &[u8]); 7] = [
+    let texts: [(&[u8], u8, &[u8]); 3] = [
         (PLAIN, 0, b"0 s A::M\n"),
-        (NO_INTERFACE, 3, NOT_BUILT),
-        (b"", 3, NOT_BUILT),
-        (b"vsd 1\n\x01", 3, b"refused 2 1 bad byte\n"),
-        (b"vsd 1 /* ", 3, b"refused 1 2 open comment\n"),
-        (b"\n\n'a", 3, b"refused 3 3 open quote\n"),
+        (MISSING, 3, MISSING_LINE),
         (b"\n\n\n\n\n\n\n\n\n\n\n\x7f", 3, b"refused 12 1 bad byte\n"),
     ];
     for (text, status, output) in texts {
         assert!(rt; Trial::of(text).gives(alloc, status, output)?, "{output:?}");
     }
-    let longest = spaces(alloc, TEXT_LIMIT)?;
-    assert!(rt; Trial::of(&longest).gives(alloc, 3, NOT_BUILT)?);
-    let too_long = spaces(alloc, TEXT_LIMIT + 1)?;
-    assert!(rt; Trial::of(&too_long).gives(alloc, 3, b"refused 0 4 too long\n")?);
+    let mut longest = Vec::from_slice(alloc, b"vsd 1\n%%\n")?;
+    longest.extend_from_slice(&spaces(alloc, TEXT_LIMIT - 9)?)?;
+    assert!(rt; Trial::of(&longest).gives(alloc, 0, b"")?);
+    longest.push(b' ')?;
+    assert!(rt; Trial::of(&longest).gives(alloc, 3, b"refused 0 4 too long\n")?);
     Ok(())
 }
 
@@ -113,16 +77,31 @@ fn in_memory(rt: HostRuntime) -> Result<(), Fail> {
     Ok(())
 }
 
-/// Only the line feed at the end can be left out.
+/// A text is whole after `%%`, after each statement of the script, and with a space or a line feed behind these.
+fn is_whole(text: &[u8]) -> bool {
+    let ends: [&[u8]; 8] = [
+        b"%%", b"%%\n", b"I::M;", b"I::M; ", b"= A;", b"= A; ", b"a; }", b"a; }\n",
+    ];
+    for end in ends {
+        if text.ends_with(end) {
+            return true;
+        }
+    }
+    false
+}
+
+/// Each first part of a text.
 #[test]
 fn cut_texts(rt: HostRuntime) -> Result<(), Fail> {
-    for end in 0..PLAIN.len() - 1 {
-        assert!(rt;
-            Trial::of(&PLAIN[..end]).gives(rt.alloc(), 3, NOT_BUILT)?,
-            "cut at {end}"
-        );
+    for end in 0..PLAIN.len() + 1 {
+        let mut sink = MemorySink::new(rt.alloc(), 100, vec![in rt.alloc()]?)?;
+        let words = vec![in rt.alloc(); String::from_str(rt.alloc(), "run")?]?;
+        let text = PLAIN[..end].to_vec(rt.alloc())?;
+        let ended = run_in_memory(rt.alloc(), &words, text, &mut sink);
+        let wanted = if is_whole(&PLAIN[..end]) { 0 } else { 3 };
+        assert_eq!(rt; number(&ended.status), wanted, "cut at {end}");
+        assert_eq!(rt; sink.bytes().starts_with(b"refused "), wanted == 3);
     }
-    assert!(rt; Trial::of(&PLAIN[..PLAIN.len() - 1]).gives(rt.alloc(), 0, b"0 s A::M\n")?);
     Ok(())
 }
 
@@ -166,7 +145,7 @@ fn failing_reads(rt: HostRuntime) -> Result<(), Fail> {
 fn failing_writes(rt: HostRuntime) -> Result<(), Fail> {
     let trials: [(&[&str], &[u8], u8, &[u8]); 3] = [
         (&["run"], PLAIN, 0, b"0 s A::M\n"),
-        (&["run"], NO_INTERFACE, 3, NOT_BUILT),
+        (&["run"], MISSING, 3, MISSING_LINE),
         (&[], PLAIN, 2, b"refused words\n"),
     ];
     for (words, text, status, line) in trials {

@@ -1,3 +1,0 @@
--- Lemmas that several proofs of this crate share.
-pub mod Lists
-pub mod Spelling
