@@ -2,6 +2,7 @@
 pub mod EntryLaws
 pub mod FirstLaws
 pub mod GivenLaws
+pub mod NameLaws
 pub mod NumberLaws
 pub mod RankLaws
 pub mod ReachLaws

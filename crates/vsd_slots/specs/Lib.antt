@@ -2,6 +2,7 @@
 pub mod Ranks
 pub mod Arguments
 pub mod Entries
+pub mod Firsts
 pub mod Givens
 pub mod Implementation
 pub mod Interfaces

@@ -2,6 +2,7 @@
 ghost use Rattle.std.specs.Prelude.{◌≡◌, ◌<◌, None, length, nat_eq, IfOk};
 ghost use Rattle.std.specs.List.{list_any};
 ghost use Rattle.vsd_check.specs.Checked.{decls_of, depths_of};
+ghost use Rattle.vsd_slots.specs.Firsts.{AreMethodNames};
 ghost use Rattle.vsd_slots.specs.Entries.{AreParts, IsCombined, IsEntry, IsStep, method_at};
 
 use crate::naming::naming;
@@ -10,6 +11,7 @@ use crate::tables::{Table, own, tabulate};
 use sqlite_items::Items;
 use std::alloc::{AllocError, Global};
 use vsd_check::Checked;
+use vsd_terms::Names;
 use vsd_types::Closed;
 
 /// A method of a closed class: the number of the class, and the method's place among those of its declaration.
@@ -96,6 +98,7 @@ fn step(
     checked: &Checked,
     closed: &Closed,
     parts: &Parts,
+    names: &[Names],
     t: u16,
     i: u16,
     m: u16,
@@ -103,13 +106,14 @@ fn step(
 ) -> Entry
     requires together { closed.now.decls ≡ decls_of checked.now }
     requires parts { AreParts closed.now (depths_of checked.now) parts.now.table.reached parts.now.table.maps parts.now.given }
+    requires names { AreMethodNames closed.now.decls.list names.now }
     requires class { t < length closed.now.types }
     requires interface { i < length closed.now.types }
     ensures { IsStep closed.now t i m above result }
 {
     let _count = closed.count();
     let overriding = first_given(parts.given.as_slice()[t as usize].as_slice(), i, m);
-    let named = naming(checked, closed, t, i, m);
+    let named = naming(checked, closed, names, t, i, m);
     let has = contains(own(closed, parts.table.reached.as_slice(), t), i);
     combine(method_at(t, overriding), method_at(t, named), has, above)
 }
@@ -119,21 +123,23 @@ pub(crate) fn entry_of(
     checked: &Checked,
     closed: &Closed,
     parts: &Parts,
+    names: &[Names],
     t: u16,
     i: u16,
     m: u16,
 ) -> Entry
     requires together { closed.now.decls ≡ decls_of checked.now }
     requires parts { AreParts closed.now (depths_of checked.now) parts.now.table.reached parts.now.table.maps parts.now.given }
+    requires names { AreMethodNames closed.now.decls.list names.now }
     requires class { t < length closed.now.types }
     requires interface { i < length closed.now.types }
     ensures { IsEntry closed.now t i m result }
 {
     match closed.base(t) {
         Some(base) => {
-            let above = entry_of(checked, closed, parts, base, i, m);
-            step(checked, closed, parts, t, i, m, above)
+            let above = entry_of(checked, closed, parts, names, base, i, m);
+            step(checked, closed, parts, names, t, i, m, above)
         }
-        None => step(checked, closed, parts, t, i, m, NOTHING),
+        None => step(checked, closed, parts, names, t, i, m, NOTHING),
     }
 }

@@ -8,6 +8,7 @@ mod adding;
 mod declared;
 mod entries;
 mod laws;
+mod method_names;
 mod naming;
 mod overriding;
 mod ranks;

@@ -3,6 +3,7 @@ ghost use Rattle.std.specs.Prelude.{◌≡◌, ◌+◌, ◌<◌, ◌≤◌, All,
 ghost use Rattle.vsd_check.specs.Checked.{decls_of, depths_of};
 ghost use Rattle.vsd_types.specs.Types.{type_at};
 ghost use Rattle.vsd_slots.specs.Entries.{AreParts};
+ghost use Rattle.vsd_slots.specs.Firsts.{AreMethodNames};
 ghost use Rattle.vsd_slots.specs.Refusals.{is_concrete, method_count, slots_in};
 ghost use Rattle.vsd_slots.specs.Rows.{IsColumn, IsFirstMissing, IsFirstNone, IsRow};
 ghost use Rattle.vsd_slots.specs.Tables.{types_of};
@@ -12,6 +13,7 @@ use crate::entries::{ClosedMethod, Parts, entry_of};
 use sqlite_items::Items;
 use std::alloc::{AllocError, Global};
 use vsd_check::Checked;
+use vsd_terms::Names;
 use vsd_types::Closed;
 
 /// The most slots that the classes of a list have together.
@@ -71,11 +73,13 @@ fn column(
     checked: &Checked,
     closed: &Closed,
     parts: &Parts,
+    names: &[Names],
     t: u16,
     interface: u16,
 ) -> Result<Items<Option<ClosedMethod>>, AllocError>
     requires together { closed.now.decls ≡ decls_of checked.now }
     requires parts { AreParts closed.now (depths_of checked.now) parts.now.table.reached parts.now.table.maps parts.now.given }
+    requires names { AreMethodNames closed.now.decls.list names.now }
     requires class { t < length closed.now.types }
     requires listed { interface < length closed.now.types }
     ensures column { IfOk result (IsColumn closed.now t interface (method_count closed.now.decls.list (type_at closed.now.types interface))) }
@@ -83,7 +87,7 @@ fn column(
 {
     let mut found = Items::new(alloc);
     for m in 0..count_methods(checked, closed, interface) {
-        found.push(entry_of(checked, closed, parts, t, interface, m).implementation)?;
+        found.push(entry_of(checked, closed, parts, names, t, interface, m).implementation)?;
     }
     Ok(found)
 }
@@ -94,11 +98,13 @@ pub(crate) fn row(
     checked: &Checked,
     closed: &Closed,
     parts: &Parts,
+    names: &[Names],
     t: u16,
     interfaces: &[u16],
 ) -> Result<Items<Items<Option<ClosedMethod>>>, AllocError>
     requires together { closed.now.decls ≡ decls_of checked.now }
     requires parts { AreParts closed.now (depths_of checked.now) parts.now.table.reached parts.now.table.maps parts.now.given }
+    requires names { AreMethodNames closed.now.decls.list names.now }
     requires class { t < length closed.now.types }
     requires listed { All (λ i. i < length closed.now.types) interfaces.now }
     ensures row { IfOk result (IsRow closed.now t interfaces.now (length interfaces.now)) }
@@ -106,7 +112,7 @@ pub(crate) fn row(
 {
     let mut found = Items::new(alloc);
     for k in 0..interfaces.len() {
-        found.push(column(alloc, checked, closed, parts, t, interfaces[k])?)?;
+        found.push(column(alloc, checked, closed, parts, names, t, interfaces[k])?)?;
     }
     Ok(found)
 }

@@ -3,6 +3,7 @@ ghost use Rattle.std.specs.Prelude.{◌≡◌, ◌<◌, ◌≤◌, [], All, leng
 ghost use Rattle.vsd_check.specs.Checked.{decls_of, depths_of};
 ghost use Rattle.vsd_types.specs.Types.{type_at};
 ghost use Rattle.vsd_slots.specs.Entries.{AreParts, found_of};
+ghost use Rattle.vsd_slots.specs.Firsts.{AreMethodNames};
 ghost use Rattle.vsd_slots.specs.Refusals.{IsTotal, Passes, method_count};
 ghost use Rattle.vsd_slots.specs.Implementation.{IsImplementation};
 ghost use Rattle.vsd_slots.specs.Interfaces.{AreInterfaces};
@@ -10,11 +11,13 @@ ghost use Rattle.vsd_slots.specs.Tables.{IsMap, types_of};
 ghost use Rattle.vsd_slots.specs.Slots.{AreSlots, AreSlotsOf, IsFilledClass, IsLacking, IsRefusal, map_of};
 
 use crate::entries::{ClosedMethod, Parts, gather};
+use crate::method_names::method_names;
 use crate::rows::{MOST_SLOTS, Slot, add_slots, first_missing, is_concrete, row};
 use crate::tables::own;
 use sqlite_items::Items;
 use std::alloc::{AllocError, Global};
 use vsd_check::Checked;
+use vsd_terms::Names;
 use vsd_types::Closed;
 
 /// Why a closed list has no tables, by the numbers of its types.
@@ -126,12 +129,14 @@ fn fill_row(
     checked: &Checked,
     closed: &Closed,
     parts: &Parts,
+    names: &[Names],
     t: u16,
     interfaces: &[u16],
     total: u32,
 ) -> Result<Filled, SlotError>
     requires together { closed.now.decls ≡ decls_of checked.now }
     requires parts { AreParts closed.now (depths_of checked.now) parts.now.table.reached parts.now.table.maps parts.now.given }
+    requires names { AreMethodNames closed.now.decls.list names.now }
     requires class { t < length closed.now.types }
     requires map { IsMap closed.now t interfaces.now }
     requires before { Passes closed.now t }
@@ -140,7 +145,7 @@ fn fill_row(
     ensures ok { IfOk result (λ f. IsFilledClass closed.now t interfaces.now f.total f.row) }
     ensures refused { IfErr result (IsRefusal closed.now) }
 {
-    let row = row(alloc, checked, closed, parts, t, interfaces)?;
+    let row = row(alloc, checked, closed, parts, names, t, interfaces)?;
     match lacking(checked, closed, t, row.as_slice()) {
         Some(slot) => Err(SlotError::Missing {
             class: t,
@@ -157,11 +162,13 @@ fn fill_class(
     checked: &Checked,
     closed: &Closed,
     parts: &Parts,
+    names: &[Names],
     t: u16,
     total: u32,
 ) -> Result<Filled, SlotError>
     requires together { closed.now.decls ≡ decls_of checked.now }
     requires parts { AreParts closed.now (depths_of checked.now) parts.now.table.reached parts.now.table.maps parts.now.given }
+    requires names { AreMethodNames closed.now.decls.list names.now }
     requires class { t < length closed.now.types }
     requires few { total ≤ MOST_SLOTS }
     requires before { Passes closed.now t }
@@ -171,7 +178,7 @@ fn fill_class(
 {
     let interfaces = parts.table.maps.as_slice()[t as usize].as_slice();
     match add_slots(checked, closed, interfaces, total) {
-        Some(more) => fill_row(alloc, checked, closed, parts, t, interfaces, more),
+        Some(more) => fill_row(alloc, checked, closed, parts, names, t, interfaces, more),
         None => Err(SlotError::TooMany { class: t }),
     }
 }
@@ -190,10 +197,11 @@ pub fn implement(alloc: Global, checked: &Checked, closed: &Closed) -> Result<Sl
     ensures refused { IfErr result (IsRefusal closed.now) }
 {
     let parts = gather(alloc, checked, closed)?;
+    let names = method_names(alloc, checked)?;
     let mut total = 0;
     let mut rows = Items::new(alloc);
     for t in 0..closed.count() {
-        let filled = fill_class(alloc, checked, closed, &parts, t, total)?;
+        let filled = fill_class(alloc, checked, closed, &parts, names.as_slice(), t, total)?;
         total = filled.total;
         rows.push(filled.row)?;
     }
