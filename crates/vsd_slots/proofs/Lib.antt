@@ -1,4 +1,5 @@
 -- Lemmas that several proofs of this crate share.
+pub mod ColumnLaws
 pub mod EntryLaws
 pub mod FirstLaws
 pub mod GivenLaws

@@ -3,7 +3,15 @@ use Rattle.std.proofs.Common.{◌≡◌, ℕ, ◌+◌, ◌<◌, ◌≤◌, suc, 
 use Rattle.std.specs.List.{position_from}
 use Rattle.std.specs.Option.{option_or}
 use Rattle.std.proofs.lemmas.List.{drop_all}
+use Rattle.std.proofs.lemmas.Option.{slice_get-get_or}
 use Rattle.vsd_slots.specs.Methods.{first_given}
+
+-- an element that is there, whatever stands for those that are not
+pub read_any : {A : Type 0} (xs : List A) (i : ℕ) (d e : A) → i < length xs → get_or xs i d ≡ get_or xs i e
+read_any xs i d e within =
+    let a = slice_get-get_or xs i d within in
+    let b = slice_get-get_or xs i e within in
+    cc
 
 module _ {A : Type 0} (xs : List A) (i : ℕ) (x : A) (within : i < length xs) (here : x ≡ get_or xs i x) where
   drop_here : drop i xs ≡ x ∷ drop (i + 1) xs

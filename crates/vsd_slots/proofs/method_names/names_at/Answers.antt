@@ -1,16 +1,9 @@
 use Rattle.std.proofs.Common.{◌≡◌, ◌∙◌, ◌<◌, ℕ, [], List, length, get_or, sym, subst, arith}
-use Rattle.std.proofs.lemmas.Option.{slice_get-get_or}
 use Rattle.vsd_types.specs.Types.{type_at}
 use Rattle.vsd_slots.specs.Firsts.{AreNamesOf}
 use Rattle.vsd_slots.proofs.NameLaws.{declaration-reads}
+use Rattle.vsd_slots.proofs.SearchLaws.{read_any}
 use Rattle.vsd_slots.proofs.method_names.names_at.Goals as goal
-
--- an element that is there, whatever stands for those that are not
-read_any : {A : Type 0} (xs : List A) (i : ℕ) (d e : A) → i < length xs → get_or xs i d ≡ get_or xs i e
-read_any xs i d e within =
-    let a = slice_get-get_or xs i d within in
-    let b = slice_get-get_or xs i e within in
-    cc
 
 pub returns : goal.returns
 returns c = λ x is.

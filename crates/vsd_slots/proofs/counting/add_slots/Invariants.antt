@@ -2,7 +2,7 @@
 use Rattle.std.proofs.Common.{◌≡◌, ◌+◌, ◌≤◌, take}
 use Rattle.vsd_slots.specs.Refusals.{slots_in}
 use Rattle.vsd_slots.specs.Tables.{types_of}
-use Rattle.vsd_slots.proofs.rows.add_slots.Given as goal
+use Rattle.vsd_slots.proofs.counting.add_slots.Given as goal
 
 abbrev pub invariant-loop-i : goal.invariant-loop-i
 invariant-loop-i l = record {

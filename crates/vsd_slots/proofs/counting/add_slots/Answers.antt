@@ -3,7 +3,7 @@ use Rattle.std.proofs.lemmas.List.{take_more}
 use Rattle.vsd_slots.specs.Refusals.{slots_in}
 use Rattle.vsd_slots.specs.Tables.{types_of}
 use Rattle.vsd_slots.proofs.SlotLaws.{slots-push, slots-take}
-use Rattle.vsd_slots.proofs.rows.add_slots.Goals as goal
+use Rattle.vsd_slots.proofs.counting.add_slots.Goals as goal
 
 pub returns-then-sum-gt-MOST_SLOTS : goal.returns-then-sum-gt-MOST_SLOTS
 returns-then-sum-gt-MOST_SLOTS c =
