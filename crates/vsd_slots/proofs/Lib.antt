@@ -1,6 +1,7 @@
 -- Lemmas that several proofs of this crate share.
 pub mod ColumnLaws
 pub mod EntryLaws
+pub mod FillLaws
 pub mod FirstLaws
 pub mod GivenLaws
 pub mod NameLaws

@@ -13,6 +13,10 @@ read_any xs i d e within =
     let b = slice_get-get_or xs i e within in
     cc
 
+-- an element that is read where it is there
+pub read-at : {A : Type 0} (xs ys : List A) (i : ℕ) (x d : A) → i < length ys → x ≡ get_or xs i x → xs ≡ ys → x ≡ get_or ys i d
+read-at xs ys i x d within is same = is ∙ ap (λ l. get_or l i x) same ∙ read_any ys i x d within
+
 module _ {A : Type 0} (xs : List A) (i : ℕ) (x : A) (within : i < length xs) (here : x ≡ get_or xs i x) where
   drop_here : drop i xs ≡ x ∷ drop (i + 1) xs
   drop_here =

@@ -84,9 +84,9 @@ pub(crate) fn column(
     requires class { t < length closed.now.types }
     requires interface { i < length closed.now.types }
     requires above { IsColumn closed.now (base_of closed.now.decls.list (type_at closed.now.types t)) i above.now }
-    requires few { length above.now ≤ 256 }
     ensures { IfOk result (IsColumn closed.now (Some (type_at closed.now.types t)) i) }
 {
+    let _few = count_methods(checked, closed, i);
     let has = has_itself(checked, closed, parts, t, i, near);
     if is_bare(checked, closed, parts, t) {
         return passed_on(alloc, has, above);
@@ -109,8 +109,7 @@ pub(crate) fn column_above(
     requires names { AreMethodNames closed.now.decls.list names.now }
     requires class { t < length closed.now.types }
     requires interface { i < length closed.now.types }
-    ensures column { IfOk result (IsColumn closed.now (base_of closed.now.decls.list (type_at closed.now.types t)) i) }
-    ensures few { IfOk result (λ column. length column ≤ 256) }
+    ensures { IfOk result (IsColumn closed.now (base_of closed.now.decls.list (type_at closed.now.types t)) i) }
 {
     match closed.base(t) {
         None => blank(alloc, count_methods(checked, closed, i)),

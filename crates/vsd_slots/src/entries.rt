@@ -99,7 +99,10 @@ pub(crate) fn has_itself(
 {
     let _decls = checked.decls();
     let _count = closed.count();
-    place_near(own(closed, parts.table.reached.as_slice(), t), near, i).is_some()
+    match place_near(own(closed, parts.table.reached.as_slice(), t), near, i) {
+        Some(_) => true,
+        None => false,
+    }
 }
 
 /// Whether a class has neither methods nor overrides, and so nothing of its own for any interface.

@@ -5,8 +5,9 @@ ghost use Rattle.vsd_types.specs.Types.{base_of, type_at};
 ghost use Rattle.vsd_slots.specs.Entries.{AreParts};
 ghost use Rattle.vsd_slots.specs.Firsts.{AreMethodNames};
 ghost use Rattle.vsd_slots.specs.Refusals.{IsWithinLimit, IsWhole, Passes};
-ghost use Rattle.vsd_slots.specs.Rows.{AreRight, Fills};
+ghost use Rattle.vsd_slots.specs.Rows.{AreRight, Fills, IsRow};
 ghost use Rattle.vsd_slots.specs.Slots.{AreMade, IsClassDone, IsRefusal};
+ghost use Rattle.vsd_slots.specs.Tables.{IsMap};
 
 use crate::counting::is_concrete;
 use crate::entries::{Entry, Parts};
@@ -97,6 +98,34 @@ fn fill(
     }
 }
 
+// Sees that a class lacks nothing, by its interfaces and its row.
+fn see_whole(
+    checked: &Checked,
+    closed: &Closed,
+    t: u16,
+    interfaces: &[u16],
+    row: &[Items<Entry>],
+) -> Result<(), SlotError>
+    requires together { closed.now.decls ≡ decls_of checked.now }
+    requires class { t < length closed.now.types }
+    requires map { IsMap closed.now t interfaces.now }
+    requires row { IsRow closed.now t interfaces.now (length interfaces.now) row.now }
+    requires before { Passes closed.now t }
+    requires within { IsWithinLimit closed.now t }
+    ensures ok { OnOk result (IsWhole closed.now.decls.list (type_at closed.now.types t)) }
+    ensures refused { IfErr result (IsRefusal closed.now) }
+{
+    let _decls = checked.decls();
+    match lacking(checked, closed, t, row) {
+        Some(slot) => Err(SlotError::Missing {
+            class: t,
+            interface: interfaces[slot.place],
+            method: slot.method,
+        }),
+        None => Ok(()),
+    }
+}
+
 // Sees that a class lacks nothing. Where there are too many slots, the row of a class that may lack some isn't made.
 fn fill_class(
     alloc: Global,
@@ -122,14 +151,10 @@ fn fill_class(
         return Ok(());
     }
     fill(alloc, checked, closed, parts, names, end, t, rows)?;
-    match lacking(checked, closed, t, rows.as_slice()[t as usize].as_slice()) {
-        Some(slot) => Err(SlotError::Missing {
-            class: t,
-            interface: parts.table.maps.as_slice()[t as usize].as_slice()[slot.place],
-            method: slot.method,
-        }),
-        None => Ok(()),
-    }
+    let row = rows.as_slice()[t as usize].as_slice();
+    let map = parts.table.maps.as_slice()[t as usize].as_slice();
+    see_whole(checked, closed, t, map, row)?;
+    Ok(())
 }
 
 /// The rows of the types before `end`, or the first of them that lacks a slot: where `end` is their count, of all.

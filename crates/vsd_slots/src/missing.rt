@@ -16,8 +16,9 @@ fn first_in(column: &[Entry]) -> Option<u16>
     ensures { IsFirstNone column.now result }
 {
     for m in 0..column.len() {
-        if column[m].implementation.is_none() {
-            return Some(m as u16);
+        match column[m].implementation {
+            None => return Some(m as u16),
+            Some(_) => {}
         }
     }
     None
