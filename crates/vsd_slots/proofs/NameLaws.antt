@@ -46,17 +46,17 @@ module _ (methods : List Method) (names : List (List ℕ)) (are : AreNamesOf met
   pub begins-at : (n : ℕ) → slice_get names n ≡ Some m.name → ((i j : ℕ) (name : List ℕ) → slice_get names i ≡ Some name → slice_get names j ≡ Some name → i ≡ j) → position_from (offers_at interface_args m args) 0 methods ≡ position_from (offers_at interface_args m args) n (drop n methods)
   begins-at n there distinct =
       skipped-to (offers_at interface_args m args) methods n (λ p x within stands. not-true (offers_at interface_args m args x) (λ is.
-          let at = are p x stands in
-          let name : slice_get names at.0 ≡ Some m.name = at.1 ∙ ap Some (same_name x is) in
-          let same = distinct at.0 n m.name name there in
-          omega (arith, within, same, at.2)))
+      let at = are p x stands in
+      let name : slice_get names at.0 ≡ Some m.name = at.1 ∙ ap Some (same_name x is) in
+      let same = distinct at.0 n m.name name there in
+      omega (arith, within, same, at.2)))
 
   -- no method has a name that isn't there
   pub has-none : (Contains names m.name → ⊥) → position_from (offers_at interface_args m args) 0 methods ≡ None
   has-none absent =
       skipped-to (offers_at interface_args m args) methods (length methods) (λ p x within stands. not-true (offers_at interface_args m args x) (λ is.
-          let at = are p x stands in
-          absurd (absent (number-contains names at.0 m.name (at.1 ∙ ap Some (same_name x is)))))) ∙ position-none (offers_at interface_args m args) methods (length methods) (omega arith)
+      let at = are p x stands in
+      absurd (absent (number-contains names at.0 m.name (at.1 ∙ ap Some (same_name x is)))))) ∙ position-none (offers_at interface_args m args) methods (length methods) (omega arith)
 
 -- ---- the names of methods, one after another
 
@@ -107,14 +107,14 @@ declaration-reads ds t place x at is = head-reads ds (head_of t) place x at is
 
 pub names-push : (ds : List Decl) (place : ℕ) (x : Decl) (found new : List (List (List ℕ))) (one : List (List ℕ)) → slice_get ds place ≡ Some x → length found ≡ place → ((k : ℕ) (y : Decl) → k < place → slice_get ds k ≡ Some y → AreNamesOf y.methods (get_or found k [])) → AreNamesOf x.methods one → new ≡ found ++ one ∷ [] → (k : ℕ) (y : Decl) → k < place + 1 → slice_get ds k ≡ Some y → AreNamesOf y.methods (get_or new k [])
 names-push ds place x found new one stands long before mine is k y within reads = elim (cases_lt k place) [
-    | inl low ↦ (
-        let read : get_or new k [] ≡ get_or found k [] = ap (λ (l : List (List (List ℕ))). get_or l k []) is ∙ get_or_append_left found (one ∷ []) [] k (omega (arith, long, low)) in
-        subst (λ (l : List (List ℕ)). AreNamesOf y.methods l) (sym read) (before k y low reads)
-        )
-    | inr high ↦ (
-        let same : k ≡ place = omega (arith, within, high) in
-        let read : get_or new k [] ≡ one = ap (λ (l : List (List (List ℕ))). get_or l k []) is ∙ ap (λ n. get_or (found ++ one ∷ []) n []) same ∙ get_or_push found one [] place long in
-        let equal : y ≡ x = let both : Some y ≡ Some x = sym reads ∙ ap (slice_get ds) same ∙ stands in cc in
-        subst (λ (l : List (List ℕ)). AreNamesOf y.methods l) (sym read) (subst (λ (z : Decl). AreNamesOf z.methods one) (sym equal) mine)
-        )
-  ]
+  | inl low ↦ (
+      let read : get_or new k [] ≡ get_or found k [] = ap (λ (l : List (List (List ℕ))). get_or l k []) is ∙ get_or_append_left found (one ∷ []) [] k (omega (arith, long, low)) in
+      subst (λ (l : List (List ℕ)). AreNamesOf y.methods l) (sym read) (before k y low reads)
+      )
+  | inr high ↦ (
+      let same : k ≡ place = omega (arith, within, high) in
+      let read : get_or new k [] ≡ one = ap (λ (l : List (List (List ℕ))). get_or l k []) is ∙ ap (λ n. get_or (found ++ one ∷ []) n []) same ∙ get_or_push found one [] place long in
+      let equal : y ≡ x = let both : Some y ≡ Some x = sym reads ∙ ap (slice_get ds) same ∙ stands in cc in
+      subst (λ (l : List (List ℕ)). AreNamesOf y.methods l) (sym read) (subst (λ (z : Decl). AreNamesOf z.methods one) (sym equal) mine)
+      )
+]

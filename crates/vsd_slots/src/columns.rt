@@ -115,7 +115,17 @@ pub(crate) fn column_above(
         None => blank(alloc, count_methods(checked, closed, i)),
         Some(base) => {
             let higher = column_above(alloc, checked, closed, parts, names, base, i)?;
-            column(alloc, checked, closed, parts, names, base, i, 0, higher.as_slice())
+            column(
+                alloc,
+                checked,
+                closed,
+                parts,
+                names,
+                base,
+                i,
+                0,
+                higher.as_slice(),
+            )
         }
     }
 }

@@ -72,7 +72,12 @@ pub(crate) fn first_over(checked: &Checked, closed: &Closed, parts: &Parts) -> u
 {
     let mut total = 0;
     for t in 0..closed.count() {
-        match add_slots(checked, closed, parts.table.maps.as_slice()[t as usize].as_slice(), total) {
+        match add_slots(
+            checked,
+            closed,
+            parts.table.maps.as_slice()[t as usize].as_slice(),
+            total,
+        ) {
             Some(more) => total = more,
             None => return t,
         }

@@ -69,7 +69,12 @@ fn method_at(t: u16, place: Option<u16>) -> Option<ClosedMethod>
 }
 
 /// The entry of a class, from its own methods and the entry of the class above.
-pub(crate) fn combine(own: Option<ClosedMethod>, named: Option<ClosedMethod>, has: bool, above: Entry) -> Entry
+pub(crate) fn combine(
+    own: Option<ClosedMethod>,
+    named: Option<ClosedMethod>,
+    has: bool,
+    above: Entry,
+) -> Entry
     ensures { IsCombined own named has above result }
 {
     let implementation = if has {

@@ -176,7 +176,16 @@ pub(crate) fn fill_all(
     let names = method_names(alloc, checked)?;
     let mut rows = no_rows(alloc, closed.count())?;
     for t in 0..end {
-        fill_class(alloc, checked, closed, parts, names.as_slice(), end, t, &mut rows)?;
+        fill_class(
+            alloc,
+            checked,
+            closed,
+            parts,
+            names.as_slice(),
+            end,
+            t,
+            &mut rows,
+        )?;
     }
     Ok(rows)
 }

@@ -45,7 +45,12 @@ pub(crate) fn first_missing(row: &[Items<Entry>]) -> Option<Slot>
 }
 
 /// The first slot that a class may not lack and does.
-pub(crate) fn lacking(checked: &Checked, closed: &Closed, t: u16, row: &[Items<Entry>]) -> Option<Slot>
+pub(crate) fn lacking(
+    checked: &Checked,
+    closed: &Closed,
+    t: u16,
+    row: &[Items<Entry>],
+) -> Option<Slot>
     requires together { closed.now.decls ≡ decls_of checked.now }
     requires class { t < length closed.now.types }
     requires short { All (λ column. length column ≤ 256) row.now }

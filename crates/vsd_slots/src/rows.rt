@@ -64,7 +64,17 @@ fn column_from(
         }
     }
     let above = column_above(alloc, checked, closed, parts, names, t, i)?;
-    column(alloc, checked, closed, parts, names, t, i, near, above.as_slice())
+    column(
+        alloc,
+        checked,
+        closed,
+        parts,
+        names,
+        t,
+        i,
+        near,
+        above.as_slice(),
+    )
 }
 
 /// The row of a class, from the rows that are made.

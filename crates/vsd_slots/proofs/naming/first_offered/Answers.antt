@@ -11,5 +11,5 @@ offered_from-requires-clause-before c =
 pub returns-in-None : goal.returns-in-None
 returns-in-None c =
     sym (has-none c.args.methods.now c.args.names.now c.requires.names c.args.interface_args.now c.args.args.now c.args.m.now (λ has.
-        let some = c.in-None.ensures.present.1 (subst (Contains c.args.names.now) (sym c.as_slice.ensures) has) in
-        absurd cc))
+    let some = c.in-None.ensures.present.1 (subst (Contains c.args.names.now) (sym c.as_slice.ensures) has) in
+    absurd cc))
