@@ -7,7 +7,7 @@ use Rattle.vsd_terms.specs.Equality.{term_eq}
 use Rattle.vsd_types.specs.Numbers.{AreNumbers}
 use Rattle.vsd_types.specs.TypeList.{TypeList}
 use Rattle.vsd_types.specs.Types.{base_of, type_at}
-use Rattle.vsd_slots.specs.Entries.{IsCombined, IsEntry, IsOver, IsStep, found_of, method_at}
+use Rattle.vsd_slots.specs.Entries.{IsCombined, IsEntry, IsHaving, IsOver, IsStep, found_of, method_at, nothing}
 use Rattle.vsd_slots.specs.Implementation.{Found, found_in, implementation, nearest}
 use Rattle.vsd_slots.specs.Lineage.{IsLineage, Level}
 use Rattle.vsd_slots.specs.Methods.{naming, overriding}
@@ -66,16 +66,26 @@ module _ (c : TypeList) (t i m : ℕ) (base : Option ℕ) (numbers : AreNumbers 
   pub base-some : (b : ℕ) → base ≡ Some b → base_of c.decls.list (type_at c.types t) ≡ Some (type_at c.types b)
   base-some b some = one_base c.types b (base_of c.decls.list (type_at c.types t)) (subst (λ (o : Option ℕ). AreNumbers c.types (option_to_list o) (option_to_list (base_of c.decls.list (type_at c.types t)))) some numbers)
 
-  pub entry-top : (none e : Entry) → base ≡ None → none.implementation ≡ None → none.nearest ≡ None → IsStep c t i m none e → IsEntry c t i m e
-  entry-top none e is a b step = record {
-    levels = record { type = type_at c.types t; interfaces = step.interfaces } ∷ [];
-    lineage = (refl, step.are, subst (λ (o : Option Term). IsLineage c.decls.list o []) (sym (base-none is)) tt);
-    over = step.step [] (over-none c i m none a b);
+module _ (c : TypeList) (t i m : ℕ) where
+  -- over a type, from the entry over those above it
+  pub entry-step : (above e : Entry) → IsEntry c (base_of c.decls.list (type_at c.types t)) i m above → IsStep c t i m above e → IsEntry c (Some (type_at c.types t)) i m e
+  entry-step above e entry step = record {
+    levels = record { type = type_at c.types t; interfaces = step.interfaces } ∷ entry.levels;
+    lineage = (refl, step.are, entry.lineage);
+    over = step.step entry.levels entry.over;
   }
 
-  pub entry-below : (b : ℕ) (above e : Entry) → base ≡ Some b → IsEntry c b i m above → IsStep c t i m above e → IsEntry c t i m e
-  entry-below b above e is entry step = record {
-    levels = record { type = type_at c.types t; interfaces = step.interfaces } ∷ entry.levels;
-    lineage = (refl, step.are, subst (λ (o : Option Term). IsLineage c.decls.list o entry.levels) (sym (base-some b is)) entry.lineage);
-    over = step.step entry.levels entry.over;
+  pub entry-none : (o : Option Term) (e : Entry) → o ≡ None → e ≡ nothing → IsEntry c o i m e
+  entry-none o e is same = record {
+    levels = [];
+    lineage = subst (λ (p : Option Term). IsLineage c.decls.list p []) (sym is) tt;
+    over = over-none c i m e (ap (λ (x : Entry). x.implementation) same) (ap (λ (x : Entry). x.nearest) same);
+  }
+
+  -- what the class has by its own methods, and whether it has the interface, make a step
+  pub step-combined : (own named : Option ℕ) (has : Bool) (above e : Entry) → own ≡ overriding c.decls.list (type_at c.types i) m (type_at c.types t) → named ≡ naming c.decls.list (type_at c.types i) m (type_at c.types t) → IsHaving c t i has → IsCombined (method_at t own) (method_at t named) has above e → IsStep c t i m above e
+  step-combined own named has above e own_is named_is having combined = record {
+    interfaces = having.interfaces;
+    are = having.are;
+    step = λ levels over. combined-over c t i m having.interfaces own named has above e levels own_is named_is having.test combined over;
   }

@@ -1,7 +1,10 @@
 -- Lemmas that several proofs of this crate share.
+pub mod ColumnLaws
 pub mod EntryLaws
+pub mod FillLaws
 pub mod FirstLaws
 pub mod GivenLaws
+pub mod NameLaws
 pub mod NumberLaws
 pub mod RankLaws
 pub mod ReachLaws

@@ -1,16 +1,21 @@
 -- Numbers of types, and the types that they are of.
-use Rattle.std.proofs.Common.{◌≡◌, ℕ, ◌<◌, Bool, true, false, ◌||◌, List, [], ◌∷◌, ◌++◌, length, if◌then◌else◌, nat_eq, All, Some, refl, sym, ap, ◌∙◌}
+use Rattle.std.proofs.Common.{◌≡◌, ℕ, ◌<◌, Bool, true, false, ◌||◌, List, [], ◌∷◌, ◌++◌, length, if◌then◌else◌, nat_eq, get_or, All, Some, refl, sym, ap, ◌∙◌}
 use Rattle.std.specs.List.{list_any, slice_get}
 use Rattle.std.proofs.lemmas.Bool.{eq-eqb, eqb-true, false≢true}
 use Rattle.std.proofs.lemmas.List.{map-append}
+use Rattle.std.proofs.lemmas.List.Folds.{list_any_at}
 use Rattle.std.proofs.lemmas.List.Elements.{All-head, All-tail, All-push}
-use Rattle.std.proofs.lemmas.Option.{get_or_from_slice_get, slice_get-get_or}
+use Rattle.std.proofs.lemmas.Option.{get_or_from_slice_get, slice_get-get_or, slice_get_within}
 use Rattle.indexmap.specs.IndexSet.{insert_all, insert_key}
 use Rattle.vsd_terms.specs.declared.term.Term.{Term}
 use Rattle.vsd_terms.specs.Equality.{term_eq, term_eq-Decides}
 use Rattle.vsd_types.specs.Numbers.{AreNumbers, IsDistinct}
 use Rattle.vsd_types.specs.Types.{object, type_at}
 use Rattle.vsd_slots.specs.Tables.{types_of}
+
+-- a number that stands in a list is in it
+pub stands-any : (ns : List ℕ) (n place : ℕ) → slice_get ns place ≡ Some n → list_any (nat_eq n) ns ≡ true
+stands-any ns n place is = list_any_at (nat_eq n) ns place 0 (slice_get_within ns place n is) (eq-eqb n (get_or ns place 0) (sym (get_or_from_slice_get ns place n 0 is)))
 
 module _ (types : List Term) where
   pub number-type : (n : ℕ) (t : Term) → slice_get types n ≡ Some t → type_at types n ≡ t

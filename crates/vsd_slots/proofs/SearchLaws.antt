@@ -3,7 +3,19 @@ use Rattle.std.proofs.Common.{◌≡◌, ℕ, ◌+◌, ◌<◌, ◌≤◌, suc, 
 use Rattle.std.specs.List.{position_from}
 use Rattle.std.specs.Option.{option_or}
 use Rattle.std.proofs.lemmas.List.{drop_all}
+use Rattle.std.proofs.lemmas.Option.{slice_get-get_or}
 use Rattle.vsd_slots.specs.Methods.{first_given}
+
+-- an element that is there, whatever stands for those that are not
+pub read_any : {A : Type 0} (xs : List A) (i : ℕ) (d e : A) → i < length xs → get_or xs i d ≡ get_or xs i e
+read_any xs i d e within =
+    let a = slice_get-get_or xs i d within in
+    let b = slice_get-get_or xs i e within in
+    cc
+
+-- an element that is read where it is there
+pub read-at : {A : Type 0} (xs ys : List A) (i : ℕ) (x d : A) → i < length ys → x ≡ get_or xs i x → xs ≡ ys → x ≡ get_or ys i d
+read-at xs ys i x d within is same = is ∙ ap (λ l. get_or l i x) same ∙ read_any ys i x d within
 
 module _ {A : Type 0} (xs : List A) (i : ℕ) (x : A) (within : i < length xs) (here : x ≡ get_or xs i x) where
   drop_here : drop i xs ≡ x ∷ drop (i + 1) xs

@@ -10,17 +10,17 @@ use Rattle.vsd_terms.specs.declared.term.Term.{Term}
 use Rattle.vsd_ast.specs.declared.declarations.Decl.{Decl}
 use Rattle.vsd_types.specs.TypeList.{TypeList}
 use Rattle.vsd_types.specs.Types.{base_of, is_interface_type, type_at}
-use Rattle.vsd_slots.specs.Entries.{IsEntry, found_of}
+use Rattle.vsd_slots.specs.Entries.{found_of, nothing}
 use Rattle.vsd_slots.specs.Implementation.{Found, IsImplementation, implementation}
 use Rattle.vsd_slots.specs.Interfaces.{AreInterfaces}
 use Rattle.vsd_slots.specs.Lineage.{IsLineage, Level, all_interfaces}
 use Rattle.vsd_slots.specs.Refusals.{AreAll, IsTotal, IsWhole, IsWithinLimit, Lacks, LacksFirst, Passes, is_concrete, method_count, slots_in}
-use Rattle.vsd_slots.specs.Rows.{IsColumn, IsFirstMissing, IsRow}
-use Rattle.vsd_slots.specs.Slots.{AreFilled}
+use Rattle.vsd_slots.specs.Missing.{IsFirstMissing, Misses}
+use Rattle.vsd_slots.specs.Rows.{IsRow}
 use Rattle.vsd_slots.specs.Tables.{IsMap, types_of}
 use Rattle.vsd_slots.specs.declared.entries.ClosedMethod.{ClosedMethod}
 use Rattle.vsd_slots.specs.declared.entries.Entry.{Entry}
-use Rattle.vsd_slots.specs.declared.rows.Slot.{Slot}
+use Rattle.vsd_slots.specs.declared.missing.Slot.{Slot}
 
 module _ (ds : List Decl) where
   interfaces_by : (t : Term) (xs ys : List Term) (b : Bool) → is_interface_type ds t ≡ b → AreInterfaces ds t xs → AreInterfaces ds t ys → xs ≡ ys
@@ -83,63 +83,45 @@ module _ (c : TypeList) (t : ℕ) where
   abbrev Ds : List Decl
   Ds = c.decls.list
 
-  pub column-push : (i m : ℕ) (found new : List (Option ClosedMethod)) (e : Entry) → IsColumn c t i m found → IsEntry c t i m e → new ≡ found ++ e.implementation ∷ [] → IsColumn c t i (m + 1) new
-  column-push i m found new e before entry is =
-      let grown : length new ≡ m + 1 = ap length is ∙ length-append found (e.implementation ∷ []) ∙ ap (λ n. n + 1) before.long in
-      let mine : IsImplementation Ds (type_at c.types t) (type_at c.types i) m (found_of c.types e.implementation) = record { levels = entry.levels; lineage = entry.lineage; first = entry.over.implementation } in
-      record {
-        long = grown;
-        each = λ n within. elim (cases_lt n m) [
-          | inl low ↦ (
-              let read : get_or new n None ≡ get_or found n None = ap (λ (l : List (Option ClosedMethod)). get_or l n None) is ∙ get_or_append_left found (e.implementation ∷ []) None n (omega (arith, before.long, low)) in
-              subst (λ o. IsImplementation Ds (type_at c.types t) (type_at c.types i) n (found_of c.types o)) (sym read) (before.each n low)
-              )
-          | inr high ↦ (
-              let last : n ≡ length found = omega (arith, before.long, high, within) in
-              let read : get_or new n None ≡ e.implementation = ap (λ (l : List (Option ClosedMethod)). get_or l n None) is ∙ ap (λ k. get_or (found ++ e.implementation ∷ []) k None) last ∙ at_end found e.implementation in
-              let same : m ≡ n = omega (arith, before.long, last) in
-              subst (λ o. IsImplementation Ds (type_at c.types t) (type_at c.types i) n (found_of c.types o)) (sym read) (subst (λ k. IsImplementation Ds (type_at c.types t) (type_at c.types i) k (found_of c.types e.implementation)) same mine)
-              )
-        ];
-      }
-    where
-      at_end : (xs : List (Option ClosedMethod)) (x : Option ClosedMethod) → get_or (xs ++ x ∷ []) (length xs) None ≡ x
-      at_end [] x = refl
-      at_end (y ∷ xs) x = at_end xs x
-
-  module _ (interfaces : List ℕ) (row : List (List (Option ClosedMethod))) (filled : IsRow c t interfaces (length interfaces) row) where
+  module _ (interfaces : List ℕ) (row : List (List Entry)) (filled : IsRow c t interfaces (length interfaces) row) where
     type_stands : (k : ℕ) → k < length interfaces → slice_get (types_of c.types interfaces) k ≡ Some (type_at c.types (get_or interfaces k 0))
     type_stands k within = slice_get-map (type_at c.types) interfaces k ∙ ap (option_map (type_at c.types)) (slice_get-get_or interfaces k 0 within)
 
+    -- what the row has for a method implements it
+    pub implements : (k m : ℕ) → k < length interfaces → m < length (get_or row k []) → IsImplementation Ds (type_at c.types t) (type_at c.types (get_or interfaces k 0)) m (found_of c.types (get_or (get_or row k []) m nothing).implementation)
+    implements k m inside within = let entry = (filled.each k inside).each m within in record { levels = entry.levels; lineage = entry.lineage; first = entry.over.implementation }
+
     -- what the class lacks, its row has not
-    lacks_none : (k m : ℕ) → Lacks Ds (type_at c.types t) (types_of c.types interfaces) k m → (k < length interfaces) × (slice_get (get_or row k []) m ≡ Some None)
+    lacks_none : (k m : ℕ) → Lacks Ds (type_at c.types t) (types_of c.types interfaces) k m → (k < length interfaces) × Misses (get_or row k []) m
     lacks_none k m lacks =
         let inside : k < length interfaces = omega (arith, slice_get_within (types_of c.types interfaces) k lacks.interface lacks.stands, length-map interfaces (type_at c.types)) in
         let stands = type_stands k inside in
         let same : lacks.interface ≡ type_at c.types (get_or interfaces k 0) = let both = sym lacks.stands ∙ stands in cc in
         let column = filled.each k inside in
-        let listed : m < method_count Ds (type_at c.types (get_or interfaces k 0)) = omega (arith, lacks.listed, ap (method_count Ds) same) in
+        let listed : m < length (get_or row k []) = omega (arith, lacks.listed, column.long, ap (method_count Ds) same) in
         let none = subst (λ i. IsImplementation Ds (type_at c.types t) i m None) same lacks.none in
-        let empty = found_none c.types (get_or (get_or row k []) m None) (implementation-unique Ds (type_at c.types t) (type_at c.types (get_or interfaces k 0)) m _ _ (column.each m listed) none) in
-        (inside, slice_get-get_or (get_or row k []) m None (omega (arith, column.long, listed)) ∙ ap Some empty)
+        let e = get_or (get_or row k []) m nothing in
+        let empty = found_none c.types e.implementation (implementation-unique Ds (type_at c.types t) (type_at c.types (get_or interfaces k 0)) m _ _ (implements k m inside listed) none) in
+        (inside, record { entry = e; stands = slice_get-get_or (get_or row k []) m nothing listed; none = empty })
 
-    none_lacks : (k m : ℕ) → k < length interfaces → slice_get (get_or row k []) m ≡ Some None → Lacks Ds (type_at c.types t) (types_of c.types interfaces) k m
-    none_lacks k m inside is =
+    none_lacks : (k m : ℕ) → k < length interfaces → Misses (get_or row k []) m → Lacks Ds (type_at c.types t) (types_of c.types interfaces) k m
+    none_lacks k m inside misses =
         let column = filled.each k inside in
-        let listed : m < method_count Ds (type_at c.types (get_or interfaces k 0)) = omega (arith, column.long, slice_get_within (get_or row k []) m None is) in
-        let empty : get_or (get_or row k []) m None ≡ None = get_or_from_slice_get (get_or row k []) m None None is in
+        let within = slice_get_within (get_or row k []) m misses.entry misses.stands in
+        let listed : m < method_count Ds (type_at c.types (get_or interfaces k 0)) = omega (arith, column.long, within) in
+        let empty : (get_or (get_or row k []) m nothing).implementation ≡ None = ap (λ (e : Entry). e.implementation) (get_or_from_slice_get (get_or row k []) m misses.entry nothing misses.stands) ∙ misses.none in
         record {
           interface = type_at c.types (get_or interfaces k 0);
           stands = type_stands k inside;
           listed = listed;
-          none = subst (λ o. IsImplementation Ds (type_at c.types t) (type_at c.types (get_or interfaces k 0)) m (found_of c.types o)) empty (column.each m listed);
+          none = subst (λ o. IsImplementation Ds (type_at c.types t) (type_at c.types (get_or interfaces k 0)) m (found_of c.types o)) empty (implements k m inside within);
         }
 
     pub whole-row : AreAll Ds (type_at c.types t) (types_of c.types interfaces) → (is_concrete Ds (type_at c.types t) ≡ true → IsFirstMissing row None) → IsWhole Ds (type_at c.types t)
     whole-row all none concrete others are k m lacks =
         let same = all-unique Ds (type_at c.types t) others (types_of c.types interfaces) are all in
         let found = lacks_none k m (subst (λ is. Lacks Ds (type_at c.types t) is k m) same lacks) in
-        none concrete k (omega (arith, found.0, filled.long)) m (slice_get_within (get_or row k []) m None found.1) found.1
+        none concrete k (omega (arith, found.0, filled.long)) m found.1
 
     pub first-row : (s : Slot) → IsFirstMissing row (Some s) → LacksFirst Ds (type_at c.types t) (types_of c.types interfaces) s.place s.method
     first-row s is =
@@ -149,11 +131,11 @@ module _ (c : TypeList) (t : ℕ) where
               let found = lacks_none p n lacks in
               elim (cases_order p s.place) [
                 | inl same ↦ elim (cases_lt n s.method) [
-                  | inl low ↦ absurd (is.1.1 n low (subst (λ k. slice_get (get_or row k []) n ≡ Some None) same found.1))
+                  | inl low ↦ absurd (is.1.1 n low (subst (λ k. Misses (get_or row k []) n) same found.1))
                   | inr high ↦ inr (sym same, high)
                 ]
                 | inr other ↦ elim other [
-                  | inl lower ↦ absurd (is.2 p lower n (slice_get_within (get_or row p []) n None found.1) found.1)
+                  | inl lower ↦ absurd (is.2 p lower n found.1)
                   | inr higher ↦ inl higher
                 ]
               ];
@@ -179,20 +161,3 @@ module _ (c : TypeList) where
 
   pub total-next : (t total : ℕ) → IsTotal c (suc t) total → IsTotal c (t + 1) total
   total-next t total is = let next : suc t ≡ t + 1 = omega arith in subst (λ n. IsTotal c n total) next is
-
-  pub filled-more : (t : ℕ) (maps : List (List ℕ)) (rows new : List (List (List (Option ClosedMethod)))) (row : List (List (Option ClosedMethod))) → AreFilled c t maps rows → IsRow c t (get_or maps t []) (length (get_or maps t [])) row → new ≡ rows ++ row ∷ [] → AreFilled c (t + 1) maps new
-  filled-more t maps rows new row before filled is =
-      record {
-        long = ap length is ∙ length-append rows (row ∷ []) ∙ ap (λ n. n + 1) before.long;
-        each = λ n within. elim (cases_lt n t) [
-          | inl low ↦ (
-              let read : get_or new n [] ≡ get_or rows n [] = ap (λ (l : List (List (List (Option ClosedMethod)))). get_or l n []) is ∙ get_or_append_left rows (row ∷ []) [] n (omega (arith, before.long, low)) in
-              subst (IsRow c n (get_or maps n []) (length (get_or maps n []))) (sym read) (before.each n low)
-              )
-          | inr high ↦ (
-              let same : t ≡ n = omega (arith, within, high) in
-              let read : get_or new t [] ≡ row = ap (λ (l : List (List (List (Option ClosedMethod)))). get_or l t []) is ∙ get_or_push rows row [] t before.long in
-              subst (λ k. IsRow c k (get_or maps k []) (length (get_or maps k [])) (get_or new k [])) same (subst (IsRow c t (get_or maps t []) (length (get_or maps t []))) (sym read) filled)
-              )
-        ];
-      }

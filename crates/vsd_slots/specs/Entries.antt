@@ -1,7 +1,9 @@
 -- What implements a method of an interface in a closed class, by numbers.
 use Rattle.std.specs.Prelude.{◌≡◌, ℕ, ◌<◌, Bool, if◌then◌else◌, List, [], ◌∷◌, length, Option, Some, None, slice_index_or}
+use Rattle.std.specs.List.{list_any}
 use Rattle.std.specs.Option.{option_map, option_or}
 use Rattle.vsd_terms.specs.declared.term.Term.{Term}
+use Rattle.vsd_terms.specs.Equality.{term_eq}
 use Rattle.vsd_ast.specs.Hierarchy.{IsHierarchy}
 use Rattle.vsd_types.specs.TypeList.{TypeList}
 use Rattle.vsd_types.specs.Types.{type_at}
@@ -9,6 +11,7 @@ use Rattle.vsd_slots.specs.Givens.{AreGiven}
 use Rattle.vsd_slots.specs.Implementation.{Found, implementation, nearest}
 use Rattle.vsd_slots.specs.Interfaces.{AreInterfaces}
 use Rattle.vsd_slots.specs.Lineage.{IsLineage, Level}
+use Rattle.vsd_slots.specs.Methods.{naming, overriding}
 use Rattle.vsd_slots.specs.Tables.{AreRows}
 use Rattle.vsd_slots.specs.declared.entries.ClosedMethod.{ClosedMethod}
 use Rattle.vsd_slots.specs.declared.entries.Entry.{Entry}
@@ -22,6 +25,10 @@ method_at t place = option_map (λ (m : ℕ). record { class = t; method = m }) 
 abbrev pub found_of : List Term → Option ClosedMethod → Option Found
 found_of types found = option_map (λ (m : ClosedMethod). record { class = type_at types m.class; method = m.method }) found
 
+-- the entry over no class
+abbrev pub nothing : Entry
+nothing = record { implementation = None; nearest = None }
+
 -- the entry of a class, from those of its own methods and the entry of the class above
 pub record IsCombined (own named : Option ClosedMethod) (has : Bool) (above e : Entry) : Type 0 where
   pub implementation : e.implementation ≡ option_or own (option_or (if has then named else None) (option_or above.implementation (if has then above.nearest else None)))
@@ -33,11 +40,26 @@ module _ (c : TypeList) where
     pub implementation : found_of c.types e.implementation ≡ implementation c.decls.list (type_at c.types i) m levels
     pub nearest : found_of c.types e.nearest ≡ nearest c.decls.list (type_at c.types i) m levels
 
-  -- the entry of the class t
-  pub record IsEntry (t i m : ℕ) (e : Entry) : Type 0 where
+  -- the entry of a type over those above it; over no type where there is none
+  pub record IsEntry (o : Option Term) (i m : ℕ) (e : Entry) : Type 0 where
     pub levels : List Level
-    pub lineage : IsLineage c.decls.list (Some (type_at c.types t)) levels
+    pub lineage : IsLineage c.decls.list o levels
     pub over : IsOver i m levels e
+
+  -- whether the class t has the interface itself
+  pub record IsHaving (t i : ℕ) (has : Bool) : Type 0 where
+    pub interfaces : List Term
+    pub are : AreInterfaces c.decls.list (type_at c.types t) interfaces
+    pub test : has ≡ list_any (term_eq (type_at c.types i)) interfaces
+
+  -- the class t has nothing of its own for a method of an interface, neither by override nor by name
+  pub record HasNothing (t i m : ℕ) : Type 0 where
+    pub overriding : overriding c.decls.list (type_at c.types i) m (type_at c.types t) ≡ None
+    pub naming : naming c.decls.list (type_at c.types i) m (type_at c.types t) ≡ None
+
+  -- nor for any other
+  abbrev pub IsBare : ℕ → Type 0
+  IsBare t = (i m : ℕ) → i < length c.types → HasNothing t i m
 
   -- the entry of the class t, where that above is the entry over the classes above it
   pub record IsStep (t i m : ℕ) (above e : Entry) : Type 0 where

@@ -60,6 +60,10 @@ module _ (c : TypeList) where
   abbrev pub IsWithinLimit : ℕ → Type 0
   IsWithinLimit t = (total : ℕ) × IsTotal (suc t) total × (total ≤ most_slots)
 
+  -- with this type there are more
+  abbrev pub IsOverLimit : ℕ → Type 0
+  IsOverLimit t = (total : ℕ) × IsTotal (suc t) total × (most_slots < total)
+
   -- no type before the n-th has too many slots or lacks one
   abbrev pub Passes : ℕ → Type 0
   Passes n = (t : ℕ) → t < n → IsWithinLimit t × IsWhole c.decls.list (type_at c.types t)

@@ -1,30 +1,37 @@
--- What implements each slot of a class, by numbers.
-use Rattle.std.specs.Prelude.{◌≡◌, ℕ, ◌<◌, List, [], length, Option, Some, None, slice_get, slice_index, slice_index_or}
+-- What a class has for the methods of each of its interfaces, by numbers.
+use Rattle.std.specs.Prelude.{◌≡◌, ℕ, ◌<◌, List, [], length, Some, slice_get, slice_index, slice_index_or}
 use Rattle.vsd_types.specs.TypeList.{TypeList}
 use Rattle.vsd_types.specs.Types.{type_at}
-use Rattle.vsd_slots.specs.Entries.{found_of}
-use Rattle.vsd_slots.specs.Implementation.{IsImplementation}
-use Rattle.vsd_slots.specs.Refusals.{method_count}
-use Rattle.vsd_slots.specs.declared.entries.ClosedMethod.{ClosedMethod}
-use Rattle.vsd_slots.specs.declared.rows.Slot.{Slot}
+use Rattle.vsd_slots.specs.Columns.{IsColumn}
+use Rattle.vsd_slots.specs.declared.entries.Entry.{Entry}
 
-module _ (c : TypeList) (t : ℕ) where
-  -- what implements each of the first methods of an interface
-  pub record IsColumn (interface count : ℕ) (column : List (Option ClosedMethod)) : Type 0 where
-    pub long : length column ≡ count
-    pub each : (m : ℕ) → m < count → IsImplementation c.decls.list (type_at c.types t) (type_at c.types interface) m (found_of c.types (slice_index_or column m None))
+-- the columns of the class t for the first of its interfaces
+pub record IsRow (c : TypeList) (t : ℕ) (interfaces : List ℕ) (count : ℕ) (row : List (List Entry)) : Type 0 where
+  pub long : length row ≡ count
+  pub each : (k : ℕ) → k < count → IsColumn c (Some (type_at c.types t)) (slice_index interfaces k) (slice_index_or row k [])
 
-  -- what implements the methods of each of the first interfaces
-  pub record IsRow (interfaces : List ℕ) (count : ℕ) (row : List (List (Option ClosedMethod))) : Type 0 where
-    pub long : length row ≡ count
-    pub each : (k : ℕ) → k < count → IsColumn (slice_index interfaces k) (method_count c.decls.list (type_at c.types (slice_index interfaces k))) (slice_index_or row k [])
+-- the row of the type t has as many columns as the type has interfaces: it is made
+abbrev pub IsFull : List (List ℕ) → ℕ → List (List (List Entry)) → Type 0
+IsFull maps t rows = length (slice_index_or rows t []) ≡ length (slice_index_or maps t [])
 
--- the first place of a list at which there is nothing
-abbrev pub IsFirstNone : List (Option ClosedMethod) → Option ℕ → Type 0
-IsFirstNone column None = (m : ℕ) → m < length column → slice_get column m ≡ Some None → ⊥
-IsFirstNone column (Some m) = (slice_get column m ≡ Some None) × ((n : ℕ) → n < m → slice_get column n ≡ Some None → ⊥)
+-- the row of the type t is made, and this is its column for the interface i
+pub record IsMade (maps : List (List ℕ)) (rows : List (List (List Entry))) (t i : ℕ) (column : List Entry) : Type 0 where
+  pub full : IsFull maps t rows
+  pub place : ℕ
+  pub stands : slice_get (slice_index_or maps t []) place ≡ Some i
+  pub column_is : column ≡ slice_index_or (slice_index_or rows t []) place []
 
--- the same of the columns of a row, one after another
-abbrev pub IsFirstMissing : List (List (Option ClosedMethod)) → Option Slot → Type 0
-IsFirstMissing row None = (k : ℕ) → k < length row → IsFirstNone (slice_index_or row k []) None
-IsFirstMissing row (Some s) = (s.place < length row) × IsFirstNone (slice_index_or row s.place []) (Some s.method) × ((k : ℕ) → k < s.place → IsFirstNone (slice_index_or row k []) None)
+module _ (c : TypeList) (maps : List (List ℕ)) where
+  abbrev pub IsRowOf : ℕ → List (List Entry) → Type 0
+  IsRowOf t row = IsRow c t (slice_index_or maps t []) (length (slice_index_or maps t [])) row
+
+  -- each row that is made is right
+  pub record AreRight (rows : List (List (List Entry))) : Type 0 where
+    pub count : length rows ≡ length c.types
+    pub each : (t : ℕ) → t < length c.types → IsFull maps t rows → IsRowOf t (slice_index_or rows t [])
+
+  -- the row of the type t is made, and those that were are
+  pub record Fills (t : ℕ) (rows new : List (List (List Entry))) : Type 0 where
+    pub right : AreRight new
+    pub full : IsFull maps t new
+    pub kept : (u : ℕ) → IsFull maps u rows → IsFull maps u new

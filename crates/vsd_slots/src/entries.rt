@@ -1,15 +1,18 @@
 //! What implements a method of an interface in a closed class.
-ghost use Rattle.std.specs.Prelude.{◌≡◌, ◌<◌, None, length, nat_eq, IfOk};
-ghost use Rattle.std.specs.List.{list_any};
+ghost use Rattle.std.specs.Prelude.{◌≡◌, ◌<◌, None, length, true, IfOk};
 ghost use Rattle.vsd_check.specs.Checked.{decls_of, depths_of};
-ghost use Rattle.vsd_slots.specs.Entries.{AreParts, IsCombined, IsEntry, IsStep, method_at};
+ghost use Rattle.vsd_slots.specs.Firsts.{AreMethodNames};
+ghost use Rattle.vsd_slots.specs.Entries.{AreParts, IsBare, IsCombined, IsHaving, IsStep, method_at};
 
+use crate::declared::declaration_at;
 use crate::naming::naming;
 use crate::overriding::{Given, first_given, overrides_of};
+use crate::searching::place_near;
 use crate::tables::{Table, own, tabulate};
 use sqlite_items::Items;
 use std::alloc::{AllocError, Global};
 use vsd_check::Checked;
+use vsd_terms::Names;
 use vsd_types::Closed;
 
 /// A method of a closed class: the number of the class, and the method's place among those of its declaration.
@@ -29,7 +32,7 @@ pub(crate) struct Entry {
 }
 
 /// The entry over no class.
-const NOTHING: Entry = Entry {
+pub(crate) const NOTHING: Entry = Entry {
     implementation: None,
     nearest: None,
 };
@@ -65,19 +68,13 @@ fn method_at(t: u16, place: Option<u16>) -> Option<ClosedMethod>
     }
 }
 
-fn contains(numbers: &[u16], wanted: u16) -> bool
-    ensures { result ≡ list_any (nat_eq wanted) numbers.now }
-{
-    for number in numbers {
-        if wanted == *number {
-            return true;
-        }
-    }
-    false
-}
-
-// The entry of a class, from its own methods and the entry of the class above.
-fn combine(own: Option<ClosedMethod>, named: Option<ClosedMethod>, has: bool, above: Entry) -> Entry
+/// The entry of a class, from its own methods and the entry of the class above.
+pub(crate) fn combine(
+    own: Option<ClosedMethod>,
+    named: Option<ClosedMethod>,
+    has: bool,
+    above: Entry,
+) -> Entry
     ensures { IsCombined own named has above result }
 {
     let implementation = if has {
@@ -91,49 +88,65 @@ fn combine(own: Option<ClosedMethod>, named: Option<ClosedMethod>, has: bool, ab
     }
 }
 
-// The entry of class `t` for the `m`-th method of interface `i`, from the entry of its base.
-fn step(
+/// Whether class `t` has interface `i` by what it names itself; `near` is where that one may stand among those.
+pub(crate) fn has_itself(
     checked: &Checked,
     closed: &Closed,
     parts: &Parts,
     t: u16,
     i: u16,
+    near: usize,
+) -> bool
+    requires parts { AreParts closed.now (depths_of checked.now) parts.now.table.reached parts.now.table.maps parts.now.given }
+    requires class { t < length closed.now.types }
+    requires interface { i < length closed.now.types }
+    ensures { IsHaving closed.now t i result }
+{
+    let _decls = checked.decls();
+    let _count = closed.count();
+    match place_near(own(closed, parts.table.reached.as_slice(), t), near, i) {
+        Some(_) => true,
+        None => false,
+    }
+}
+
+/// Whether a class has neither methods nor overrides, and so nothing of its own for any interface.
+pub(crate) fn is_bare(checked: &Checked, closed: &Closed, parts: &Parts, t: u16) -> bool
+    requires together { closed.now.decls ≡ decls_of checked.now }
+    requires parts { AreParts closed.now (depths_of checked.now) parts.now.table.reached parts.now.table.maps parts.now.given }
+    requires class { t < length closed.now.types }
+    ensures { result ≡ true → IsBare closed.now t }
+{
+    if !parts.given.as_slice()[t as usize].is_empty() {
+        return false;
+    }
+    match declaration_at(checked, closed, t) {
+        Some(class) => class.decl.methods.is_empty(),
+        None => true,
+    }
+}
+
+/// The entry of class `t` for the `m`-th method of interface `i`, from the entry of its base.
+pub(crate) fn step(
+    checked: &Checked,
+    closed: &Closed,
+    parts: &Parts,
+    names: &[Names],
+    t: u16,
+    i: u16,
     m: u16,
+    has: bool,
     above: Entry,
 ) -> Entry
     requires together { closed.now.decls ≡ decls_of checked.now }
     requires parts { AreParts closed.now (depths_of checked.now) parts.now.table.reached parts.now.table.maps parts.now.given }
+    requires names { AreMethodNames closed.now.decls.list names.now }
     requires class { t < length closed.now.types }
     requires interface { i < length closed.now.types }
+    requires having { IsHaving closed.now t i has }
     ensures { IsStep closed.now t i m above result }
 {
-    let _count = closed.count();
     let overriding = first_given(parts.given.as_slice()[t as usize].as_slice(), i, m);
-    let named = naming(checked, closed, t, i, m);
-    let has = contains(own(closed, parts.table.reached.as_slice(), t), i);
+    let named = naming(checked, closed, names, t, i, m);
     combine(method_at(t, overriding), method_at(t, named), has, above)
-}
-
-/// What class `t` has for the `m`-th method of interface `i`: the rule over the class and those above it, from the top.
-pub(crate) fn entry_of(
-    checked: &Checked,
-    closed: &Closed,
-    parts: &Parts,
-    t: u16,
-    i: u16,
-    m: u16,
-) -> Entry
-    requires together { closed.now.decls ≡ decls_of checked.now }
-    requires parts { AreParts closed.now (depths_of checked.now) parts.now.table.reached parts.now.table.maps parts.now.given }
-    requires class { t < length closed.now.types }
-    requires interface { i < length closed.now.types }
-    ensures { IsEntry closed.now t i m result }
-{
-    match closed.base(t) {
-        Some(base) => {
-            let above = entry_of(checked, closed, parts, base, i, m);
-            step(checked, closed, parts, t, i, m, above)
-        }
-        None => step(checked, closed, parts, t, i, m, NOTHING),
-    }
 }

@@ -5,20 +5,28 @@
 #![tactic(auto)]
 
 mod adding;
+mod columns;
+mod counting;
 mod declared;
 mod entries;
+mod error;
+mod filling;
 mod laws;
+mod method_names;
+mod missing;
 mod naming;
 mod overriding;
 mod ranks;
 mod rows;
+mod searching;
 mod signatures;
 mod slots;
 mod tables;
 mod texts;
 
+pub use counting::count_methods;
 pub use entries::ClosedMethod;
+pub use error::SlotError;
 pub use laws::{implementation_law, interfaces_law};
-pub use rows::count_methods;
-pub use slots::{SlotError, Slots, implement};
+pub use slots::{Slots, implement};
 pub use texts::{method_text, name_text, type_text};

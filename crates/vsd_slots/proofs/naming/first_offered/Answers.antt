@@ -1,15 +1,15 @@
-use Rattle.std.proofs.Common.{◌∙◌, sym, arith}
-use Rattle.vsd_slots.specs.Methods.{offers_at}
-use Rattle.vsd_slots.proofs.SearchLaws.{position-found, position-further, position-none}
+use Rattle.std.proofs.Common.{◌≡◌, ◌∙◌, List, ℕ, Some, Contains, sym, ap, subst}
+use Rattle.std.specs.List.{slice_get}
+use Rattle.vsd_slots.proofs.NameLaws.{begins-at, has-none}
 use Rattle.vsd_slots.proofs.naming.first_offered.Goals as goal
 
-pub loop-i-preserved : goal.loop-i-preserved
-loop-i-preserved c =
-    c.loop-i.invariant ∙ position-further c.args.methods.now c.loop-i.i c.index-methods-i.result c.loop-i-test.true c.index-methods-i.is (offers_at c.args.interface_args.now c.args.m.now c.args.args.now) (sym c.offers.ensures ∙ c.if-offers.false)
+pub offered_from-requires-clause-before : goal.offered_from-requires-clause-before
+offered_from-requires-clause-before c =
+    let there : slice_get c.args.names.now c.from.result ≡ Some c.args.m.now.name = ap (slice_get c.args.names.now) c.from.ensures ∙ c.in-Some.ensures.found ∙ ap Some c.as_slice.ensures in
+    begins-at c.args.methods.now c.args.names.now c.requires.names c.args.interface_args.now c.args.args.now c.args.m.now c.from.result there c.find.ensures.names.distinct
 
-pub returns-then-offers : goal.returns-then-offers
-returns-then-offers c =
-    sym (c.loop-i.invariant ∙ position-found c.args.methods.now c.loop-i.i c.index-methods-i.result c.loop-i-test.true c.index-methods-i.is (offers_at c.args.interface_args.now c.args.m.now c.args.args.now) (sym c.offers.ensures ∙ c.if-offers.true))
-
-pub returns : goal.returns
-returns c = sym (c.loop-i.invariant ∙ position-none (offers_at c.args.interface_args.now c.args.m.now c.args.args.now) c.args.methods.now c.loop-i.i (omega arith))
+pub returns-in-None : goal.returns-in-None
+returns-in-None c =
+    sym (has-none c.args.methods.now c.args.names.now c.requires.names c.args.interface_args.now c.args.args.now c.args.m.now (λ has.
+    let some = c.in-None.ensures.present.1 (subst (Contains c.args.names.now) (sym c.as_slice.ensures) has) in
+    absurd cc))

@@ -1,19 +1,21 @@
-use Rattle.std.proofs.Common.{arith}
-use Rattle.vsd_slots.proofs.SlotLaws.{filled-more, passes-more, total-next}
+use Rattle.std.proofs.Common.{◌≡◌, ◌<◌, ℕ, length, subst, arith}
+use Rattle.vsd_slots.specs.Refusals.{Passes}
 use Rattle.vsd_slots.proofs.slots.implement.Goals as goal
 
-pub loop-t-preserved : goal.loop-t-preserved
-loop-t-preserved c =
-    let s = c.args.closed.now in
-    let t = c.loop-t.t in
-    let one = c.in_ok-filled.ensures.ok in
-    let maps = c.in_ok-parts.parts.table.maps in
+pub returns-then-end-count-clause-refused : goal.returns-then-end-count-clause-refused
+returns-then-end-count-clause-refused c =
+    let n = length c.args.closed.now.types in
+    let listed : c.first_over-end.result < n = omega (arith, c.if-end-count.true, c.count.ensures.count) in
+    let over = c.first_over-end.ensures.over listed in
     record {
-      passes = passes-more s t c.loop-t.invariant.passes (c.in_ok-filled.filled.total, one.totalled, one.few) one.whole;
-      totalled = total-next s t c.in_ok-filled.filled.total one.totalled;
-      few = one.few;
-      filled = filled-more s t maps c.loop-t.rows c.push.new.self c.in_ok-filled.filled.row c.loop-t.invariant.filled one.filled c.in_ok-push.ensures.ok;
+      listed = listed;
+      before = c.in_ok-rows.ensures.passes;
+      total = over.0;
+      totalled = over.1;
+      more = over.2;
     }
 
 pub returns-clause-passes : goal.returns-clause-passes
-returns-clause-passes c = λ t within. c.loop-t.invariant.passes t (omega (arith, within))
+returns-clause-passes c =
+    let all : c.first_over-end.result ≡ length c.args.closed.now.types = omega (arith, c.if-end-count.false, c.count.ensures.count, c.first_over-end.ensures.listed) in
+    subst (λ (k : ℕ). Passes c.args.closed.now k) all c.in_ok-rows.ensures.passes

@@ -1,0 +1,26 @@
+use Rattle.std.proofs.Common.{◌<◌, IfOk, Option, sym, subst, arith}
+use Rattle.vsd_check.specs.Checked.{depths_of}
+use Rattle.vsd_terms.specs.declared.term.Term.{Term}
+use Rattle.vsd_types.specs.Types.{type_at}
+use Rattle.vsd_slots.specs.Columns.{IsColumn}
+use Rattle.vsd_slots.specs.Ranks.{rank_of}
+use Rattle.vsd_slots.proofs.EntryLaws.{base-some}
+use Rattle.vsd_slots.proofs.RankLaws.{base-falls}
+use Rattle.vsd_slots.proofs.columns.+column_above.Goals as goal
+
+pub column_above-requires : goal.column_above-requires
+column_above-requires t c =
+    let s = c.args.closed.now in
+    let ds = s.decls.list in
+    let depths = depths_of c.args.checked.now in
+    let b = c.in-Some.base in
+    let is = base-some s c.args.t c.args.i 0 c.base.result c.base.ensures.number b c.in-Some.is in
+    let lower = base-falls ds depths c.requires.parts.hierarchy (type_at s.types c.args.t) (type_at s.types b) is in
+    let falls : rank_of ds depths (type_at s.types b) < t = omega (arith, c.decreases, lower) in
+    (falls, (c.requires.together, (c.requires.parts, (c.requires.names, (c.in-Some.ensures.within, c.requires.interface)))))
+
+pub returns-in_ok-higher-in-Some : goal.returns-in_ok-higher-in-Some
+returns-in_ok-higher-in-Some t c =
+    let s = c.args.closed.now in
+    let is = base-some s c.args.t c.args.i 0 c.base.result c.base.ensures.number c.in-Some.base c.in-Some.is in
+    subst (λ (o : Option Term). IfOk c.column.result (IsColumn s o c.args.i)) (sym is) c.column.ensures

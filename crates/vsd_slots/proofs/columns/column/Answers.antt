@@ -1,0 +1,24 @@
+use Rattle.std.proofs.Common.{None, Some, length}
+use Rattle.std.proofs.lemmas.Result.{IfOk-weaker}
+use Rattle.vsd_types.specs.Types.{type_at}
+use Rattle.vsd_slots.specs.Columns.{AreEach, IsColumn}
+use Rattle.vsd_slots.specs.Entries.{IsCombined, IsStep}
+use Rattle.vsd_slots.proofs.ColumnLaws.{passed-steps, stepped-column}
+use Rattle.vsd_slots.proofs.columns.column.Goals as goal
+
+pub returns-then-is_bare : goal.returns-then-is_bare
+returns-then-is_bare c =
+    let s = c.args.closed.now in
+    let t = c.args.t in
+    let i = c.args.i in
+    let above = c.args.above.now in
+    let has = c.has_itself-has.result in
+    IfOk-weaker c.passed_on.result (AreEach (λ m. IsCombined None None has) (length above) above) (IsColumn s (Some (type_at s.types t)) i) (λ column each. stepped-column s t i above column c.requires.above (passed-steps s t i has (length above) above column c.requires.interface (c.is_bare.ensures c.if-is_bare.true) c.has_itself-has.ensures each)) c.passed_on.ensures
+
+pub returns : goal.returns
+returns c =
+    let s = c.args.closed.now in
+    let t = c.args.t in
+    let i = c.args.i in
+    let above = c.args.above.now in
+    IfOk-weaker c.stepped.result (AreEach (IsStep s t i) (length above) above) (IsColumn s (Some (type_at s.types t)) i) (λ column each. stepped-column s t i above column c.requires.above each) c.stepped.ensures

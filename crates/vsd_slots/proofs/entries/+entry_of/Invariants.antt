@@ -1,8 +1,0 @@
--- The rank of a class's base is lower.
-use Rattle.vsd_check.specs.Checked.{depths_of}
-use Rattle.vsd_types.specs.Types.{type_at}
-use Rattle.vsd_slots.specs.Ranks.{rank_of}
-use Rattle.vsd_slots.proofs.entries.+entry_of.Given as goal
-
-abbrev pub decreases-entry_of : goal.decreases-entry_of
-decreases-entry_of l = rank_of l.closed.now.decls.list (depths_of l.checked.now) (type_at l.closed.now.types l.t)

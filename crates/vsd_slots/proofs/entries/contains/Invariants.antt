@@ -1,7 +1,0 @@
--- None of the numbers before this place is the one that is wanted.
-use Rattle.std.proofs.Common.{◌≡◌, nat_eq, drop}
-use Rattle.std.specs.List.{list_any}
-use Rattle.vsd_slots.proofs.entries.contains.Given as goal
-
-abbrev pub invariant-loop-number : goal.invariant-loop-number
-invariant-loop-number l = list_any (nat_eq l.wanted) l.numbers ≡ list_any (nat_eq l.wanted) (drop l.number-index l.numbers)

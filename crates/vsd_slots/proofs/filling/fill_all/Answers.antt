@@ -1,0 +1,17 @@
+use Rattle.std.proofs.Common.{arith}
+use Rattle.vsd_slots.proofs.FillLaws.{made-more}
+use Rattle.vsd_slots.proofs.SlotLaws.{passes-more}
+use Rattle.vsd_slots.proofs.filling.fill_all.Goals as goal
+
+pub loop-t-preserved : goal.loop-t-preserved
+loop-t-preserved c =
+    let s = c.args.closed.now in
+    let t = c.loop-t.t in
+    let done = c.in_ok-fill_class.ensures.ok in
+    record {
+      made = made-more s c.args.parts.now.table.maps c.args.end t c.loop-t.rows c.fill_class.new.rows c.loop-t.invariant.made done;
+      passes = passes-more s t c.loop-t.invariant.passes (c.requires.within t c.loop-t-test.true) done.whole;
+    }
+
+pub returns-clause-passes : goal.returns-clause-passes
+returns-clause-passes c = λ t within. c.loop-t.invariant.passes t (omega (arith, within, c.loop-t-test.false))
