@@ -1,23 +1,20 @@
 -- What tables answer is what declarations say.
-use Rattle.std.proofs.Common.{◌≡◌, ◌↔◌, ◌⊎◌, ℕ, zero, suc, ◌+◌, ◌*◌, ◌<◌, ◌≤◌, List, ◌++◌, length, get_or, Option, Some, None, codes, inl, inr, refl, sym, ap, subst, ◌∙◌, arith}
+use Rattle.std.proofs.Common.{◌≡◌, ◌↔◌, ◌⊎◌, ℕ, zero, suc, ◌<◌, List, ◌++◌, length, get_or, Some, None, codes, inl, inr, refl, sym, ap, subst, ◌∙◌, arith}
 use Rattle.std.specs.List.{slice_get}
 use Rattle.vsd_terms.specs.declared.term.Term.{Term}
 use Rattle.vsd_ast.specs.declared.scripts.Script.{Script}
 use Rattle.vsd_ast.specs.declared.scripts.Site.{Site}
-use Rattle.vsd_answers.specs.Answers.{World, world}
-use Rattle.vsd_answers.specs.Numbering.{Pair, site_pairs, site_tokens_of, tokens_of}
+use Rattle.vsd_answers.specs.Answers.{world}
+use Rattle.vsd_answers.specs.Numbering.{Pair, site_pairs, tokens_of}
 use Rattle.vsd_compat.specs.Compatibility.{IsCompatible}
-use Rattle.vsd_lines.specs.Lines.{target_text, text_at, verdict}
+use Rattle.vsd_lines.specs.Lines.{target_text, verdict}
 use Rattle.vsd_lines.specs.Said.{Agrees, IsVerdict}
 use Rattle.vsd_rule.specs.Lists.{entry}
-use Rattle.vsd_slots.specs.Implementation.{Found}
 use Rattle.vsd_slots.specs.Texts.{method_text}
 use Rattle.vsd_types.specs.Types.{type_at}
-use Rattle.vsd_itable.specs.Selection.{IsSelection}
 use Rattle.vsd_itable.specs.Tables.{AreTables, IsTarget, cmp_of, interface_of, method_at, numbered_text, sel_of, slot_of, slot_text, tokens_count, types_count}
 use Rattle.vsd_itable.specs.Value.{Value}
-use Rattle.vsd_stages.specs.Answered.{IsSaid, said_of}
-use Rattle.vsd_stages.specs.Noted.{AreTold, IsTold}
+use Rattle.vsd_stages.specs.Answered.{IsSaid}
 use Rattle.vsd_stages.specs.Rooted.{AreTabled}
 use Rattle.vsd_stages.proofs.Rooting.{root_type, root_within, site_token, site_within}
 

@@ -1,7 +1,6 @@
 -- Answers by lists that stay within their ranges can be written.
-use Rattle.std.proofs.Common.{◌≡◌, ℕ, ◌+◌, ◌*◌, ◌<◌, ◌≤◌, slice_index, slice_index_or, List, [], ◌∷◌, ◌++◌, length, map, drop, refl, sym, subst, arith}
+use Rattle.std.proofs.Common.{◌≡◌, ℕ, ◌+◌, ◌*◌, ◌<◌, ◌≤◌, slice_index, slice_index_or, List, [], ◌∷◌, ◌++◌, length, drop, refl, sym, subst, arith}
 use Rattle.std.proofs.lemmas.List.{get_or-map, length-map}
-use Rattle.vsd_ast.specs.Scripts.{IsWellFormedScript}
 use Rattle.vsd_ast.specs.declared.scripts.Host.{Host}
 use Rattle.vsd_ast.specs.declared.scripts.Lane.{Lane}
 use Rattle.vsd_ast.specs.declared.scripts.Op.{Op}

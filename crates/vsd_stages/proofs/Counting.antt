@@ -1,5 +1,5 @@
 -- There are no more tokens than sites.
-use Rattle.std.proofs.Common.{◌≡◌, ℕ, ◌+◌, ◌≤◌, Bool, true, false, cond, List, [], ◌∷◌, ◌++◌, length, fold, length-append, arith}
+use Rattle.std.proofs.Common.{◌+◌, ◌≤◌, true, false, cond, List, [], ◌∷◌, ◌++◌, length, fold, length-append, arith}
 use Rattle.vsd_answers.specs.Numbering.{Pair, is_listed, tokens_of, with_pair}
 
 one_more : (ts : List Pair) (p : Pair) → length (with_pair ts p) ≤ length ts + 1

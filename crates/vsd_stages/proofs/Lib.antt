@@ -14,3 +14,4 @@ pub mod Noting
 pub mod Readiness
 pub mod Naming
 pub mod Counting
+pub mod Rendered

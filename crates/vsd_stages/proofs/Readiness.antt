@@ -1,19 +1,19 @@
 -- Answers that are prepared are those of the declarations, and can be written.
-use Rattle.std.proofs.Common.{◌≡◌, ℕ, zero, suc, ◌+◌, ◌*◌, ◌/◌, ◌%◌, ◌<◌, ◌≤◌, List, length, get_or, map, ⊎_elim, refl, sym, ap, subst, ◌∙◌, arith}
+use Rattle.std.proofs.Common.{◌≡◌, ℕ, zero, suc, ◌*◌, ◌/◌, ◌%◌, ◌<◌, ◌≤◌, List, length, get_or, ⊎_elim, sym, ap, subst, ◌∙◌, arith}
 use Rattle.std.proofs.lemmas.Bool.{cases_lt}
 use Rattle.std.proofs.lemmas.List.{get_or_past, length-map}
 use Rattle.std.proofs.lemmas.Nat.{div-add-mod', div_below, mod_below}
 use Rattle.vsd_ast.specs.Scripts.{IsWellFormedScript}
 use Rattle.vsd_ast.specs.declared.scripts.Script.{Script}
 use Rattle.vsd_answers.specs.Answers.{CanAnswer, World, answers_of, world}
-use Rattle.vsd_answers.specs.Numbering.{site_pairs, site_tokens_of, tokens_of}
+use Rattle.vsd_answers.specs.Numbering.{site_pairs, tokens_of}
 use Rattle.vsd_answers.proofs.Numbered.{is_numbering}
 use Rattle.vsd_compat.specs.Compatibility.{IsCompatible}
 use Rattle.vsd_lines.specs.Lines.{CanWrite, text_at, text_of}
 use Rattle.vsd_lines.proofs.Saying.{text_is}
 use Rattle.vsd_rule.specs.Lists.{entry}
 use Rattle.vsd_types.proofs.NumberLemmas.{numbers-length, numbers-within}
-use Rattle.vsd_itable.specs.Tables.{AreTables, cmp_of, numbered_text, sel_of, slot_text, tokens_count, types_count}
+use Rattle.vsd_itable.specs.Tables.{AreTables, cmp_of, sel_of, slot_text, tokens_count, types_count}
 use Rattle.vsd_itable.specs.Value.{Value}
 use Rattle.vsd_stages.specs.Answered.{AreAnswers, IsSaid}
 use Rattle.vsd_stages.specs.Noted.{AreTold, IsTold}
@@ -42,12 +42,12 @@ module _ (v : Value) (s : Script) (types sites : List ℕ) (formed : IsWellForme
             (let same = ap length tabled.site_tokens ∙ (is_numbering pairs).count in omega (arith, below, same))));
       }
 
-module _ (v : Value) (tables : AreTables v) (texts : List (List ℕ)) where
-  -- every target names a text that is there
-  told_few : (number : ℕ) → IsTold v texts number → number ≤ length texts
-  told_few zero told = omega arith
-  told_few (suc n) told = let below = told.there in omega (arith, below)
+-- every target names a text that is there
+pub told_few : (v : Value) (texts : List (List ℕ)) (number : ℕ) → IsTold v texts number → number ≤ length texts
+told_few v texts zero told = omega arith
+told_few v texts (suc n) told = let below = told.there in omega (arith, below)
 
+module _ (v : Value) (tables : AreTables v) (texts : List (List ℕ)) where
   few_by : (count width : ℕ) → length (sel_of v) ≡ count * width → ((t k : ℕ) → t < count → k < width → entry (sel_of v) width t k ≤ length texts)
       → (i : ℕ) → i < length (sel_of v) → get_or (sel_of v) i 0 ≤ length texts
   few_by count zero long each i below = absurd (omega (arith, below, long))
@@ -58,7 +58,7 @@ module _ (v : Value) (tables : AreTables v) (texts : List (List ℕ)) where
 
   pub targets_few : ((t : ℕ) → t < types_count v → AreTold v texts t (tokens_count v)) → (i : ℕ) → get_or (sel_of v) i 0 ≤ length texts
   targets_few told i =
-      ⊎_elim (λ below. few_by (types_count v) (tokens_count v) tables.targets_count (λ t k first second. told_few (entry (sel_of v) (tokens_count v) t k) (told t first k second)) i below)
+      ⊎_elim (λ below. few_by (types_count v) (tokens_count v) tables.targets_count (λ t k first second. told_few v texts (entry (sel_of v) (tokens_count v) t k) (told t first k second)) i below)
       (λ past. let none = get_or_past (sel_of v) i 0 past in omega (arith, none)) (cases_lt i (length (sel_of v)))
 
   says_told : (number : ℕ) → IsTold v texts number → SaysTarget v (text_at texts) (text_at texts) number

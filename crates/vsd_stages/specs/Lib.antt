@@ -6,3 +6,5 @@ pub mod Stopping
 pub mod Settling
 pub mod Rooted
 pub mod Noted
+pub mod Rendering
+pub mod Named

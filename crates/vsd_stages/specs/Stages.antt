@@ -1,5 +1,5 @@
 -- What a text answers, or its first refusal: the stages in their order, each on what those before it gave.
-use Rattle.std.specs.Prelude.{◌≡◌, ℕ, List, [], length, Result, Ok, Err, Some}
+use Rattle.std.specs.Prelude.{◌≡◌, ℕ, List, [], length, Ok, Err, Some}
 use Rattle.vsd_text.specs.Tokens.{tokens_of}
 use Rattle.vsd_text.specs.declared.tokens.LexError.{LexError}
 use Rattle.vsd_text.specs.declared.tokens.Token.{Token}

@@ -4,12 +4,14 @@
 
 mod prepared;
 mod preparing;
+mod rendering;
 mod stages;
 mod stopping;
 mod texts;
 mod writing;
 
 pub use prepared::Prepared;
+pub use rendering::render;
 pub use stages::answer;
 pub use stopping::Stopped;
 pub use vsd_lines::LinesError;

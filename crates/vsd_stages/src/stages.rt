@@ -120,7 +120,7 @@ fn numbers_of(alloc: Global, closed: &Closed, terms: &[Term]) -> Result<Vec<u16>
 }
 
 /// The tokens of a script's sites, with the numbers of its roots' types.
-fn tokens_of(
+pub(crate) fn tokens_of(
     alloc: Global,
     closed: &Closed,
     script: &Script,
