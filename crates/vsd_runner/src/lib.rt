@@ -17,6 +17,7 @@ pub use vsd_outside::{
     Failed, MemorySink, MemorySource, Sink, Source, StdSink, StdSource, SureSource,
 };
 pub use vsd_refusals::Refusal;
+pub use vsd_stages::{LinesError as RenderError, render};
 
 #[cfg(test)]
 mod tests;
