@@ -7,5 +7,6 @@ pub mod BitLaws
 pub mod SelectLaws
 pub mod ChainLaws
 pub mod AbstractLaws
+pub mod UpwardLaws
 pub mod ImplementLaws
 pub mod TableLaws

@@ -1,12 +1,15 @@
 -- What selection comes to, in other words.
-use Rattle.std.specs.Prelude.{◌≡◌, ℕ, ◌<◌, true, false, List, Contains, Option, Some, None, slice_get}
+use Rattle.std.specs.Prelude.{◌≡◌, ◌↔◌, ℕ, ◌<◌, true, false, List, ◌++◌, Contains, Option, Some, None, slice_get}
 use Rattle.vsd_terms.specs.declared.term.Term.{Term}
 use Rattle.vsd_ast.specs.declared.declarations.Decl.{Decl}
 use Rattle.vsd_ast.specs.declared.declarations.Decls.{Decls}
 use Rattle.vsd_ast.specs.declared.declarations.Method.{Method}
 use Rattle.vsd_ast.specs.Hierarchy.{IsHierarchy}
 use Rattle.vsd_check.specs.Conditions.{AreLawful}
-use Rattle.vsd_types.specs.Types.{declaration_of}
+use Rattle.vsd_types.specs.Numbers.{IsDistinct}
+use Rattle.vsd_types.specs.Types.{base_of, declaration_of, is_interface_type}
+use Rattle.vsd_slots.specs.Interfaces.{AreInterfaces, firsts}
+use Rattle.vsd_slots.specs.Reaching.{Reaches}
 use Rattle.vsd_slots.specs.Methods.{methods_in}
 use Rattle.vsd_slots.specs.Implementation.{Found, IsImplementation}
 use Rattle.vsd_slots.specs.Refusals.{AreAll, is_concrete, method_count}
@@ -37,3 +40,11 @@ IsSelectedWhereImplemented = (ds : List Decl) (t j i : Term) (m : ℕ) (f : Foun
 -- what is selected in a class that isn't abstract isn't abstract, where declarations are lawful
 abbrev pub NoneAbstract : Type 0
 NoneAbstract = (d : Decls) (depths : List ℕ) → AreLawful d → IsHierarchy d.list depths → (t j : Term) (m : ℕ) (f : Found) (x : Method) → is_concrete d.list t ≡ true → IsSelection d.list t j m (Some f) → slice_get (methods_in (declaration_of d.list f.class)) f.method ≡ Some x → x.is_abstract ≡ false
+
+-- the interfaces of a class and of those above it are those that one of these classes reaches by naming and requiring, each once
+abbrev pub ListsUpward : Type 0
+ListsUpward = (ds : List Decl) (t : Term) (interfaces : List Term) → AreAll ds t interfaces → IsDistinct interfaces × ((i : Term) → Contains interfaces i ↔ ((u : Term) × IsUpward ds t u × (is_interface_type ds u ≡ false) × ((n : ℕ) × Reaches ds n u i)))
+
+-- nearest first: the class's own, then those of its base and of what is above that, each where it first stands
+abbrev pub NearestComeFirst : Type 0
+NearestComeFirst = (ds : List Decl) (t b : Term) (own over interfaces : List Term) → AreInterfaces ds t own → base_of ds t ≡ Some b → AreAll ds b over → AreAll ds t interfaces → interfaces ≡ firsts (own ++ over)

@@ -20,6 +20,6 @@ mod target;
 mod targets;
 
 pub use error::BuildError;
-pub use laws::selection_law;
+pub use laws::{interfaces_upward_law, selection_law};
 pub use tables::Tables;
 pub use target::Target;

@@ -54,3 +54,9 @@ merge acc ts (x ∷ xs) = merge acc (insert_key term_eq ts x) xs ∙ ap (λ l. i
 
 pub insert-firsts : (acc xs : List Term) → insert_all term_eq acc (firsts xs) ≡ insert_all term_eq acc xs
 insert-firsts acc xs = merge acc [] xs
+
+-- of what stands after a list only the first ones count
+pub firsts-append : (own more : List Term) → firsts (own ++ more) ≡ firsts (own ++ firsts more)
+firsts-append own more =
+    fold-append (insert_key term_eq) [] own more
+    ∙ (sym (insert-firsts (insert_all term_eq [] own) more) ∙ sym (fold-append (insert_key term_eq) [] own (firsts more)))

@@ -60,7 +60,7 @@ insert-distinct ts x distinct =
     ] in
     both refl
 
-all-distinct : (ts xs : List Term) → IsDistinct ts → IsDistinct (insert_all term_eq ts xs)
+pub all-distinct : (ts xs : List Term) → IsDistinct ts → IsDistinct (insert_all term_eq ts xs)
 all-distinct ts [] distinct = distinct
 all-distinct ts (x ∷ xs) distinct = all-distinct (insert_key term_eq ts x) xs (insert-distinct ts x distinct)
 
@@ -80,10 +80,10 @@ all-from ts (x ∷ xs) y there =
       | inr later ↦ inr (Contains-append_right (x ∷ []) xs y later)
     ]
 
-none_has : (y : Term) → Contains [] y → ⊥
+pub none_has : (y : Term) → Contains [] y → ⊥
 none_has y there = omega (arith, there.1)
 
-firsts-from : (xs : List Term) (y : Term) → Contains (firsts xs) y → Contains xs y
+pub firsts-from : (xs : List Term) (y : Term) → Contains (firsts xs) y → Contains xs y
 firsts-from xs y there = elim (all-from [] xs y there) [ inl none ↦ absurd (none_has y none) | inr from ↦ from ]
 
 -- ---- trees
