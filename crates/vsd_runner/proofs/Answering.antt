@@ -59,5 +59,6 @@ module _ (text : List ℕ) where
 
   -- an accepted text isn't too long
   pub short_of_accepted : (answers : List ℕ) → IsText text answers → length text ≤ text_limit
+  unfolding Ends
   short_of_accepted answers read =
       ⊎_elim (λ (tokens, lexed, rest). short_of_lexed text tokens lexed) (λ (r, refuses, is). absurd (apart answers r (sym is))) read
