@@ -1,5 +1,5 @@
 -- A text that ends in one way has one answer.
-use Rattle.std.proofs.Common.{◌≡◌, ℕ, ◌≤◌, List, length, Some, Ok, refl, sym, ap, subst, ◌∙◌, ⊎_elim}
+use Rattle.std.proofs.Common.{◌≡◌, ℕ, ◌≤◌, List, length, Some, refl, sym, ap, subst, ◌∙◌, ⊎_elim}
 use Rattle.vsd_refusals.specs.Lines.{refusal_line}
 use Rattle.vsd_refusals.specs.declared.refusal.Refusal.{Refusal}
 use Rattle.vsd_stages.specs.Endings.{Ending, accepted, refused}
