@@ -1,5 +1,5 @@
 -- A text that ends in one way has one answer.
-use Rattle.std.proofs.Common.{◌≡◌, ℕ, ◌≤◌, List, length, Some, Ok, refl, sym, ap, subst, ◌∙◌, ⊎_elim}
+use Rattle.std.proofs.Common.{◌≡◌, ℕ, ◌≤◌, List, length, Some, refl, sym, ap, subst, ◌∙◌, ⊎_elim}
 use Rattle.vsd_refusals.specs.Lines.{refusal_line}
 use Rattle.vsd_refusals.specs.declared.refusal.Refusal.{Refusal}
 use Rattle.vsd_stages.specs.Endings.{Ending, accepted, refused}
@@ -59,5 +59,6 @@ module _ (text : List ℕ) where
 
   -- an accepted text isn't too long
   pub short_of_accepted : (answers : List ℕ) → IsText text answers → length text ≤ text_limit
+  unfolding Ends
   short_of_accepted answers read =
       ⊎_elim (λ (tokens, lexed, rest). short_of_lexed text tokens lexed) (λ (r, refuses, is). absurd (apart answers r (sym is))) read

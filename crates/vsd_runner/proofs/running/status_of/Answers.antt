@@ -1,4 +1,4 @@
-use Rattle.vsd_runner.proofs.Runs.{outcome_of, written}
+use Rattle.vsd_runner.proofs.Runs.{outcome_of}
 use Rattle.vsd_runner.proofs.running.status_of.Goals as goal
 
 pub returns-clause-outcome : goal.returns-clause-outcome
