@@ -14,10 +14,10 @@ use Rattle.vsd_ccache.specs.declared.finding.FirstMiss.{FirstMiss}
 
 -- two handles of the table's rows, of which each names something
 pub record ArePair (k : Key) (source target : Handle) : Type 0 where
-  pub source : HandleInRange source
+  pub source_in_range : HandleInRange source
   pub source_row : source.row < handle_rows k.sizes
   pub some_source : 0 < source.generation
-  pub target : HandleInRange target
+  pub target_in_range : HandleInRange target
   pub target_row : target.row < handle_rows k.sizes
   pub some_target : 0 < target.generation
 
