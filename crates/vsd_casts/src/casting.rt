@@ -17,7 +17,7 @@ ghost use Rattle.vsd_handles.specs.OwnRows.{IsSure};
 ghost use Rattle.vsd_ccache.specs.Looks.{IsMissOf, IsFirstMissOf};
 ghost use Rattle.vsd_ccache.specs.Tells.{Tells};
 ghost use Rattle.vsd_casts.specs.Answers.{AnswerTells};
-ghost use Rattle.vsd_casts.specs.Parts.{EndsLook};
+ghost use Rattle.vsd_casts.specs.Parts.{ArePair, EndsLook};
 
 use vsd_ccache::{First, FirstMiss, probe_first, probe_others, put};
 use vsd_handles::type_of;
@@ -81,12 +81,7 @@ fn go_on<R: Resolver>(
     requires seat { Belongs table.now hand.old.seated }
     requires types { (key_of table.now).world.types ≡ R.types resolver.now }
     requires cmp { (key_of table.now).world.cmp ≡ R.cmp resolver.now }
-    requires source { HandleInRange source }
-    requires source_row { source.row < handle_rows (key_of table.now).sizes }
-    requires some_source { 0 < source.generation }
-    requires target { HandleInRange target }
-    requires target_row { target.row < handle_rows (key_of table.now).sizes }
-    requires some_target { 0 < target.generation }
+    requires pair { ArePair (key_of table.now) source target }
     requires first { IsFirstMissOf (key_of table.now) source target first }
     ensures trail { EndsLook hand.old.seated hand.new.seated (key_of table.now) source target first result }
     ensures complete { IsSure (view_of hand.old.seated) source → IsSure (view_of hand.old.seated) target → IsOk result }
@@ -116,12 +111,7 @@ fn look_on<R: Resolver>(
     requires seat { Belongs table.now hand.old.seated }
     requires types { (key_of table.now).world.types ≡ R.types resolver.now }
     requires cmp { (key_of table.now).world.cmp ≡ R.cmp resolver.now }
-    requires source { HandleInRange source }
-    requires source_row { source.row < handle_rows (key_of table.now).sizes }
-    requires some_source { 0 < source.generation }
-    requires target { HandleInRange target }
-    requires target_row { target.row < handle_rows (key_of table.now).sizes }
-    requires some_target { 0 < target.generation }
+    requires pair { ArePair (key_of table.now) source target }
     requires first { IsFirstMissOf (key_of table.now) source target first }
     ensures trail { EndsLook hand.old.seated hand.new.seated (key_of table.now) source target first result }
     ensures complete { IsSure (view_of hand.old.seated) source → IsSure (view_of hand.old.seated) target → IsOk result }
@@ -151,12 +141,7 @@ fn walk<R: Resolver>(
     requires seat { Belongs table.now hand.old.seated }
     requires types { (key_of table.now).world.types ≡ R.types resolver.now }
     requires cmp { (key_of table.now).world.cmp ≡ R.cmp resolver.now }
-    requires source { HandleInRange source }
-    requires source_row { source.row < handle_rows (key_of table.now).sizes }
-    requires some_source { 0 < source.generation }
-    requires target { HandleInRange target }
-    requires target_row { target.row < handle_rows (key_of table.now).sizes }
-    requires some_target { 0 < target.generation }
+    requires pair { ArePair (key_of table.now) source target }
     requires miss { IsMissOf (key_of table.now) source target miss }
     ensures trail { Makes hand.old.seated hand.new.seated (casting_by (key_of table.now) source target (find.Miss miss)) result }
     ensures complete { IsSure (view_of hand.old.seated) source → IsSure (view_of hand.old.seated) target → IsOk result }
