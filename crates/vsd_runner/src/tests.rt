@@ -2,6 +2,7 @@
 mod refusals;
 mod rows;
 mod trials;
+mod types;
 
 use self::trials::Trial;
 use super::*;
