@@ -125,7 +125,8 @@ impl Written {
         for round in 0..self.rounds {
             for place in 0..self.piece.len() {
                 if place < self.piece.len() {
-                    self.write(alloc, self.piece[place], round)?;
+                    let byte = self.piece[place];
+                    self.write(alloc, byte, round)?;
                 }
             }
         }
