@@ -83,8 +83,11 @@ module _ (ds : List Decl) where
   pub object-no_base : (b : Term) → base_of ds object ≡ Some b → ⊥
   object-no_base b is = let none : base_of ds object ≡ None = ap (base_of_head ds (args_of object)) (head_of-Builtin Object) in absurd cc
 
-  pub object-names_none : named_of ds object ≡ []
-  object-names_none = ap (λ h. declared_interfaces (args_of object) (declaration_of_head ds h)) (head_of-Builtin Object)
+  pub object-names_nothing : (i : Term) → Contains (named_of ds object) i → ⊥
+  object-names_nothing i has =
+      let none : named_of ds object ≡ [] = ap (λ h. declared_interfaces (args_of object) (declaration_of_head ds h)) (head_of-Builtin Object) in
+      let there = subst (λ l. Contains l i) none has in
+      absurd (omega (arith, there.1))
 
   pub object-no_interface : is_interface_type ds object ≡ true → ⊥
   object-no_interface interface = false≢true (sym (ap (λ h. is_declared_interface (declaration_of_head ds h)) (head_of-Builtin Object)) ∙ interface)

@@ -1,9 +1,7 @@
-use Rattle.vsd_compat.proofs.Below.{below-compatible}
-use Rattle.vsd_compat.proofs.Heads.{lawful-interface}
-use Rattle.vsd_compat.proofs.Least.{least}
 use Rattle.vsd_compat.proofs.Orderly.{orderly}
-use Rattle.vsd_compat.proofs.Spreading.{required_below}
+use Rattle.vsd_compat.proofs.Transitivity.{transitive}
 use Rattle.vsd_compat.proofs.laws.compatibility_is_transitive.Goals as goal
 
 pub returns : goal.returns
-returns c = ?
+returns c d lawful t u w closed_t closed_u closed_w first second =
+    transitive d.list (orderly d lawful) t u w closed_t.lawful closed_u.lawful closed_w.lawful first second
