@@ -1,5 +1,5 @@
 -- What a type's declaration says of it: whether it has a base, is a reference type, and how many arguments it has.
-use Rattle.std.proofs.Common.{◌≡◌, ◌<◌, ℕ, Bool, true, false, not, ◌&&◌, List, [], ◌∷◌, length, map, Option, Some, None, IfSome, All, Contains, refl, sym, ap, ◌∙◌, subst, arith}
+use Rattle.std.proofs.Common.{◌≡◌, ℕ, Bool, true, false, not, List, [], ◌∷◌, length, map, Option, Some, None, IfSome, All, Contains, refl, sym, ap, ◌∙◌, subst, arith}
 use Rattle.std.specs.Cmp.{first_so, second_so}
 use Rattle.std.specs.Option.{option_and_then}
 use Rattle.std.proofs.lemmas.Bool.{false≢true}
@@ -12,7 +12,7 @@ use Rattle.vsd_terms.specs.declared.term.Term.TheFolds.{fold-roll-Term}
 use Rattle.vsd_terms.specs.declared.term.Term.TheOpen as layer
 use Rattle.vsd_terms.specs.declared.term.Term.TheViews.{out-roll-Term}
 use Rattle.vsd_terms.specs.declared.term.Term.TheVariants.{Named, Param, Builtin, rolls-Param}
-use Rattle.vsd_ast.specs.Lookup.{Head, named, parameter, built_in, all_true, declared, head_of, head_step, is_lawful, is_value_type, takes, value_base}
+use Rattle.vsd_ast.specs.Lookup.{Head, named, parameter, built_in, all_true, declared, head_of, head_step, is_lawful, takes, value_base}
 use Rattle.vsd_ast.specs.declared.declarations.Decl.{Decl}
 use Rattle.vsd_ast.specs.declared.declarations.Located.{Located}
 use Rattle.vsd_types.specs.Types.{args_of, arguments_in, base_of, base_of_head, builtin_base, declaration_of, declaration_of_head, declared_base, declared_interfaces, is_declared_interface, is_declared_reference, is_interface_type, is_reference_head, is_reference_type, named_of, object, written_base}

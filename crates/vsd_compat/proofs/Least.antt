@@ -1,5 +1,5 @@
 -- Compatibility is the least relation that keeps the rules: what keeps them has all that it has.
-use Rattle.std.proofs.Common.{◌≡◌, inl, inr, List, sym, subst}
+use Rattle.std.proofs.Common.{inl, inr, List, sym, subst}
 use Rattle.vsd_terms.specs.declared.term.Term.{Term}
 use Rattle.vsd_ast.specs.declared.declarations.Decl.{Decl}
 use Rattle.vsd_ast.specs.declared.declarations.Sign.{Sign}

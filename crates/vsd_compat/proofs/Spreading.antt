@@ -1,15 +1,15 @@
 -- What differs in the arguments of an interface differs in what it requires the way its place says, and so what it
 -- requires at the one is below what it requires at the other.
-use Rattle.std.proofs.Common.{◌≡◌, ◌<◌, ◌≤◌, ℕ, zero, suc, ◌+◌, Bool, true, false, ◌&&◌, inl, inr, List, [], ◌∷◌, length, map, get_or, slice_index_or, Option, Some, None, All, Contains, refl, sym, ap, ◌∙◌, subst, arith}
+use Rattle.std.proofs.Common.{◌≡◌, ◌<◌, ℕ, zero, suc, ◌+◌, Bool, true, false, inl, inr, List, [], ◌∷◌, length, map, get_or, slice_index_or, Some, Contains, refl, sym, ap, ◌∙◌, subst, arith}
 use Rattle.std.specs.Cmp.{first_so, second_so}
 use Rattle.std.specs.List.{slice_get}
 use Rattle.std.proofs.lemmas.Bool.{cases_lt, false≢true}
 use Rattle.std.proofs.lemmas.List.{get_or_past, length-map, same_lists}
 use Rattle.std.proofs.lemmas.List.Elements.{All-contains}
-use Rattle.std.proofs.lemmas.Option.{slice_get-get_or, slice_get_within}
+use Rattle.std.proofs.lemmas.Option.{slice_get-get_or}
 use Rattle.vsd_terms.specs.Substitution.{subst_of}
 use Rattle.vsd_terms.specs.declared.term.Term.{Term}
-use Rattle.vsd_terms.specs.declared.term.Term.TheVariants.{Named, Param, Builtin}
+use Rattle.vsd_terms.specs.declared.term.Term.TheVariants.{Named, Param}
 use Rattle.vsd_terms.proofs.Induction.{term_induction}
 use Rattle.vsd_terms.proofs.SubstitutionLemmas.{subst_of-Named, subst_of-Param, subst_of-Builtin}
 use Rattle.vsd_ast.specs.Lookup.{all_true, declared, head_of, is_lawful, takes}
@@ -26,8 +26,8 @@ use Rattle.vsd_types.specs.Types.{args_of, declaration_of, declaration_of_head, 
 use Rattle.vsd_types.proofs.BaseLemmas.{lawful-declared}
 use Rattle.vsd_types.proofs.Declared.{args_of-Named, head_of-Named, is_lawful-Named}
 use Rattle.vsd_compat.specs.Compatibility.{AreSameInterface, IsParameter}
-use Rattle.vsd_compat.proofs.Below.{IsBelow, alike, by_signs, Differs, unchanged, with_plus, with_minus, opposite, differs-turned, plain-unchanged, plus-below}
-use Rattle.vsd_compat.proofs.Heads.{IsLawful, interface_declaration, lawful-count, named_head, turned_interface}
+use Rattle.vsd_compat.proofs.Below.{IsBelow, by_signs, Differs, unchanged, with_plus, with_minus, opposite, differs-turned, plain-unchanged, plus-below}
+use Rattle.vsd_compat.proofs.Heads.{IsLawful, interface_declaration, lawful-count, named_head}
 use Rattle.vsd_compat.proofs.Orderly.{AreOrderly}
 
 -- the sign at which types in a place differ

@@ -1,6 +1,6 @@
 -- Why compatibility is transitive over lawful declarations. A step is carried over a derivation that comes before it or
 -- behind it, and the arguments of a step by variance are steps again.
-use Rattle.std.proofs.Common.{◌≡◌, ◌<◌, ℕ, true, inl, inr, List, [], length, get_or, Option, Some, None, Contains, refl, sym, ap, ◌∙◌, subst, arith}
+use Rattle.std.proofs.Common.{◌≡◌, ◌<◌, ℕ, true, inl, inr, List, length, get_or, Some, Contains, refl, sym, ap, ◌∙◌, subst, arith}
 use Rattle.std.specs.List.{slice_get}
 use Rattle.std.proofs.lemmas.List.Elements.{All-contains}
 use Rattle.std.proofs.lemmas.Option.{get_or_from_slice_get, slice_get-get_or, slice_get_within}
@@ -9,9 +9,9 @@ use Rattle.vsd_ast.specs.declared.declarations.Decl.{Decl}
 use Rattle.vsd_ast.specs.declared.declarations.Sign.{Sign}
 use Rattle.vsd_ast.specs.declared.declarations.Sign.TheVariants.{Plus, Minus, Plain}
 use Rattle.vsd_types.specs.Types.{args_of, base_of, declaration_of_head, declared_signs, is_interface_type, is_reference_type, named_of, object, signs_of}
-use Rattle.vsd_compat.specs.Compatibility.{AreReferences, AreSameInterface, IsCompatible, IsParameter, Varies, same, to_object, by_base, by_interface, by_variance, equal, covariant, contravariant}
+use Rattle.vsd_compat.specs.Compatibility.{AreSameInterface, IsCompatible, IsParameter, Varies, same, to_object, by_base, by_interface, by_variance, covariant, contravariant}
 use Rattle.vsd_compat.specs.Rules.{KeepsRules, VariesAs}
-use Rattle.vsd_compat.proofs.Below.{IsBelow, alike, known, by_signs, Differs, unchanged, with_plus, with_minus, below-compatible, below-references, differs-varies, minus-below, plain-unchanged, plus-below}
+use Rattle.vsd_compat.proofs.Below.{IsBelow, alike, known, by_signs, Differs, unchanged, with_plus, with_minus, below-compatible, below-references, differs-varies, minus-below, plus-below}
 use Rattle.vsd_compat.proofs.Heads.{IsLawful, interface-no_base, interface_declaration, lawful-arguments, lawful-base, lawful-count, lawful-interface, object-names_nothing, object-no_base, object-no_interface, turned_interface}
 use Rattle.vsd_compat.proofs.Least.{least}
 use Rattle.vsd_compat.proofs.Orderly.{AreOrderly}
@@ -222,12 +222,12 @@ module _ (ds : List Decl) (orderly : AreOrderly ds) where
   moves-variance t u generic at lawful_t lawful_u = record {
     left = λ a lawful_a below. left-cases u lawful_u whole (λ first differ.
         by_variance (joined_interface a t u first generic) (λ place s x z p.
-            let m = middle a t u lawful_a lawful_t first place s x z p in
-            join-left s x m.0 z (of a lawful_a place x p.first) (of t lawful_t place m.0 m.1.second) (of u lawful_u place z p.second) (differ place s x m.0 m.1) (at place s m.0 z m.2))) below;
+        let m = middle a t u lawful_a lawful_t first place s x z p in
+        join-left s x m.0 z (of a lawful_a place x p.first) (of t lawful_t place m.0 m.1.second) (of u lawful_u place z p.second) (differ place s x m.0 m.1) (at place s m.0 z m.2))) below;
     right = λ c lawful_c below. right-cases t lawful_t whole (λ second differ.
         by_variance (joined_interface t u c generic second) (λ place s x z p.
-            let m = middle t u c lawful_t lawful_u generic place s x z p in
-            join-right s x m.0 z (of t lawful_t place x p.first) (of u lawful_u place m.0 m.1.second) (of c lawful_c place z p.second) (at place s x m.0 m.1) (differ place s m.0 z m.2))) below;
+        let m = middle t u c lawful_t lawful_u generic place s x z p in
+        join-right s x m.0 z (of t lawful_t place x p.first) (of u lawful_u place m.0 m.1.second) (of c lawful_c place z p.second) (at place s x m.0 m.1) (differ place s m.0 z m.2))) below;
   }
     where
       of : (v : Term) → Lawful v → (place : ℕ) (x : Term) → slice_get (args_of v) place ≡ Some x → Lawful x
