@@ -1,123 +1,25 @@
 -- Why compatibility is transitive over lawful declarations. A step is carried over a derivation that comes before it or
 -- behind it, and the arguments of a step by variance are steps again.
-use Rattle.std.proofs.Common.{◌≡◌, ◌<◌, ℕ, true, inl, inr, List, length, get_or, Some, Contains, refl, sym, ap, ◌∙◌, subst, arith}
+use Rattle.std.proofs.Common.{◌≡◌, ℕ, true, inl, inr, List, Some, Contains, refl, sym, subst}
 use Rattle.std.specs.List.{slice_get}
-use Rattle.std.proofs.lemmas.List.Elements.{All-contains}
-use Rattle.std.proofs.lemmas.Option.{get_or_from_slice_get, slice_get-get_or, slice_get_within}
 use Rattle.vsd_terms.specs.declared.term.Term.{Term}
 use Rattle.vsd_ast.specs.declared.declarations.Decl.{Decl}
 use Rattle.vsd_ast.specs.declared.declarations.Sign.{Sign}
 use Rattle.vsd_ast.specs.declared.declarations.Sign.TheVariants.{Plus, Minus, Plain}
-use Rattle.vsd_types.specs.Types.{args_of, base_of, declaration_of_head, declared_signs, is_interface_type, is_reference_type, named_of, object, signs_of}
+use Rattle.vsd_types.specs.Types.{args_of, base_of, is_reference_type, named_of}
 use Rattle.vsd_compat.specs.Compatibility.{AreSameInterface, IsCompatible, IsParameter, Varies, same, to_object, by_base, by_interface, by_variance, covariant, contravariant}
 use Rattle.vsd_compat.specs.Rules.{KeepsRules, VariesAs}
-use Rattle.vsd_compat.proofs.Below.{IsBelow, alike, known, by_signs, Differs, unchanged, with_plus, with_minus, below-compatible, below-references, differs-varies, minus-below, plus-below}
-use Rattle.vsd_compat.proofs.Heads.{IsLawful, interface-no_base, interface_declaration, lawful-arguments, lawful-base, lawful-count, lawful-interface, object-names_nothing, object-no_base, object-no_interface, turned_interface}
+use Rattle.vsd_compat.proofs.Arguments.{argument-lawful, joined_interface, lawful-at, middle}
+use Rattle.vsd_compat.proofs.Below.{IsBelow, alike, known, by_signs, Differs, unchanged, below-compatible, below-references, differs-varies, minus-below, plus-below}
+use Rattle.vsd_compat.proofs.Heads.{IsLawful, interface-no_base, lawful-base, lawful-interface, turned_interface}
+use Rattle.vsd_compat.proofs.Inheriting.{inherits, object-alone}
 use Rattle.vsd_compat.proofs.Least.{least}
 use Rattle.vsd_compat.proofs.Orderly.{AreOrderly}
 use Rattle.vsd_compat.proofs.Spreading.{required_below}
 
--- `object` is compatible with itself alone
-pub object-alone : (ds : List Decl) {t c : Term} → t ≡ object → IsCompatible ds t c → c ≡ object
-object-alone ds is (same e) = sym e ∙ is
-object-alone ds is (to_object e) = e
-object-alone ds is (by_base b at rest) = absurd (object-no_base ds b (ap (base_of ds) (sym is) ∙ at))
-object-alone ds is (by_interface i has rest) =
-    absurd (object-names_nothing ds i (subst (λ z. Contains (named_of ds z) i) is has))
-object-alone ds is (by_variance generic at) =
-    absurd (object-no_interface ds (subst (λ z. is_interface_type ds z ≡ true) is generic.interface))
-
 module _ (ds : List Decl) (orderly : AreOrderly ds) where
   abbrev Lawful : Term → Type 0
   Lawful = IsLawful ds
-
-  -- an argument of a lawful type is lawful
-  argument-lawful : (t : Term) → Lawful t → (place : ℕ) (x : Term) → slice_get (args_of t) place ≡ Some x → Lawful x
-  argument-lawful t lawful place x at =
-      All-contains Lawful (args_of t) x (lawful-arguments ds t lawful) (place, slice_get_within (args_of t) place x at, get_or_from_slice_get (args_of t) place x x at)
-
-  -- types of one interface have an argument at each of its parameters
-  middle : (t u w : Term) → Lawful t → Lawful u → AreSameInterface ds t u → (place : ℕ) (s : Sign) (x z : Term) → IsParameter ds t w place s x z → (y : Term) × IsParameter ds t u place s x y × IsParameter ds u w place s y z
-  middle t u w lawful_t lawful_u generic place s x z p =
-      let found = interface_declaration ds t generic.interface in
-      let is_u = ap (declaration_of_head ds) (sym generic.generic) ∙ found.1 in
-      let long = lawful-count ds t found.0 lawful_t found.1 ∙ sym (lawful-count ds u found.0 lawful_u is_u) in
-      let within : place < length (args_of u) = omega (arith, long, slice_get_within (args_of t) place x p.first) in
-      let at = slice_get-get_or (args_of u) place x within in
-      let signs : signs_of ds t ≡ signs_of ds u = ap (λ h. declared_signs (declaration_of_head ds h)) generic.generic in
-      (get_or (args_of u) place x, record { sign = p.sign; first = p.first; second = at }, record { sign = ap (λ l. slice_get l place) (sym signs) ∙ p.sign; first = at; second = p.second })
-
-  joined_interface : (t u w : Term) → AreSameInterface ds t u → AreSameInterface ds u w → AreSameInterface ds t w
-  joined_interface t u w first second = record { interface = first.interface; generic = first.generic ∙ second.generic }
-
-  -- arguments that are related wherever both are lawful
-  lawful-differs : (Known : Term → Term → Type 0) (s : Sign) (x y : Term) → Lawful x → Lawful y → VariesAs ds (λ t u. Lawful t → Lawful u → Known t u) s x y → Differs ds Known s x y
-  lawful-differs Known s x y lawful_x lawful_y (inl e) = unchanged e
-  lawful-differs Known Plus x y lawful_x lawful_y (inr w) = with_plus refl (known w.0 (w.1 lawful_x lawful_y))
-  lawful-differs Known Minus x y lawful_x lawful_y (inr w) =
-      with_minus refl (known (record { first = w.0.second; second = w.0.first }) (w.1 lawful_y lawful_x))
-  lawful-differs Known Plain x y lawful_x lawful_y (inr w) = absurd w.1
-
-  lawful-at : (Known : Term → Term → Type 0) (t u : Term) → Lawful t → Lawful u → ((place : ℕ) (s : Sign) (x y : Term) → IsParameter ds t u place s x y → VariesAs ds (λ t u. Lawful t → Lawful u → Known t u) s x y) → (place : ℕ) (s : Sign) (x y : Term) → IsParameter ds t u place s x y → Differs ds Known s x y
-  lawful-at Known t u lawful_t lawful_u at place s x y p =
-      lawful-differs Known s x y (argument-lawful t lawful_t place x p.first) (argument-lawful u lawful_u place y p.second) (at place s x y p)
-
-  -- ---- what leads to a type leads to what lies right above it
-
-  -- the first is compatible with the second, and with what the second has right above itself
-  record Inherits (t u : Term) : Type 0 where
-    itself : IsCompatible ds t u
-    base : (b : Term) → base_of ds u ≡ Some b → IsCompatible ds t b
-    interface : (i : Term) → Contains (named_of ds u) i → IsCompatible ds t i
-
-  abbrev InheritsLawfully : Term → Term → Type 0
-  InheritsLawfully t u = Lawful t → Lawful u → Inherits t u
-
-  inherits-below : {a b : Term} → IsBelow ds Inherits a b → IsCompatible ds a b
-  inherits-below = below-compatible ds Inherits orderly (λ a b up. up.itself)
-
-  inherits-variance : (t u : Term) → AreSameInterface ds t u → ((place : ℕ) (s : Sign) (x y : Term) → IsParameter ds t u place s x y → VariesAs ds InheritsLawfully s x y) → InheritsLawfully t u
-  inherits-variance t u generic at lawful_t lawful_u =
-      let differ = lawful-at Inherits t u lawful_t lawful_u at in
-      record {
-        itself = inherits-below (by_signs generic differ);
-        base = λ b is. let none = interface-no_base ds u (turned_interface ds t u generic).interface in absurd cc;
-        interface = λ i has.
-            let found = required_below ds Inherits orderly t u lawful_t lawful_u generic differ i has in
-            by_interface found.0 found.1 (inherits-below found.2);
-      }
-
-  inherits-rules : KeepsRules ds InheritsLawfully
-  inherits-rules = record {
-    itself = λ t lawful_t lawful_u. record {
-      itself = same refl;
-      base = λ b is. by_base b is (same refl);
-      interface = λ i has. by_interface i has (same refl);
-    };
-    to_object = λ t lawful_t lawful_u. record {
-      itself = to_object refl;
-      base = λ b is. absurd (object-no_base ds b is);
-      interface = λ i has. absurd (object-names_nothing ds i has);
-    };
-    base = λ t b u is related lawful_t lawful_u.
-        let up = related (lawful-base ds orderly t b lawful_t is) lawful_u in
-        record {
-          itself = by_base b is up.itself;
-          base = λ c at. by_base b is (up.base c at);
-          interface = λ i has. by_base b is (up.interface i has);
-        };
-    interface = λ t i u has related lawful_t lawful_u.
-        let up = related (lawful-interface ds orderly t i lawful_t has) lawful_u in
-        record {
-          itself = by_interface i has up.itself;
-          base = λ c at. by_interface i has (up.base c at);
-          interface = λ j at. by_interface i has (up.interface j at);
-        };
-    variance = inherits-variance;
-  }
-
-  inherits : {t u : Term} → IsCompatible ds t u → InheritsLawfully t u
-  inherits = least ds InheritsLawfully inherits-rules
 
   -- ---- a derivation over which steps are carried, and steps that are carried over derivations
 
@@ -221,17 +123,17 @@ module _ (ds : List Decl) (orderly : AreOrderly ds) where
   moves-variance : (t u : Term) → AreSameInterface ds t u → ((place : ℕ) (s : Sign) (x y : Term) → IsParameter ds t u place s x y → VariesAs ds MovesLawfully s x y) → MovesLawfully t u
   moves-variance t u generic at lawful_t lawful_u = record {
     left = λ a lawful_a below. left-cases u lawful_u whole (λ first differ.
-        by_variance (joined_interface a t u first generic) (λ place s x z p.
-        let m = middle a t u lawful_a lawful_t first place s x z p in
+        by_variance (joined_interface ds a t u first generic) (λ place s x z p.
+        let m = middle ds a t u lawful_a lawful_t first place s x z p in
         join-left s x m.0 z (of a lawful_a place x p.first) (of t lawful_t place m.0 m.1.second) (of u lawful_u place z p.second) (differ place s x m.0 m.1) (at place s m.0 z m.2))) below;
     right = λ c lawful_c below. right-cases t lawful_t whole (λ second differ.
-        by_variance (joined_interface t u c generic second) (λ place s x z p.
-        let m = middle t u c lawful_t lawful_u generic place s x z p in
+        by_variance (joined_interface ds t u c generic second) (λ place s x z p.
+        let m = middle ds t u c lawful_t lawful_u generic place s x z p in
         join-right s x m.0 z (of t lawful_t place x p.first) (of u lawful_u place m.0 m.1.second) (of c lawful_c place z p.second) (at place s x m.0 m.1) (differ place s m.0 z m.2))) below;
   }
     where
       of : (v : Term) → Lawful v → (place : ℕ) (x : Term) → slice_get (args_of v) place ≡ Some x → Lawful x
-      of = argument-lawful
+      of = argument-lawful ds
 
       whole : IsCompatible ds t u
       whole = by_variance generic (λ place s x y p.
@@ -260,7 +162,7 @@ module _ (ds : List Decl) (orderly : AreOrderly ds) where
 
   carries-variance : (t u : Term) → AreSameInterface ds t u → ((place : ℕ) (s : Sign) (x y : Term) → IsParameter ds t u place s x y → VariesAs ds CarriesLawfully s x y) → CarriesLawfully t u
   carries-variance t u generic at lawful_t lawful_u =
-      let below : Below t u = by_signs generic (lawful-at Carries t u lawful_t lawful_u at) in
+      let below : Below t u = by_signs generic (lawful-at ds Carries t u lawful_t lawful_u at) in
       record {
         itself = carries-below below;
         before = λ c lawful_c rest. (moves rest lawful_u lawful_c).left t lawful_t below;
@@ -284,14 +186,14 @@ module _ (ds : List Decl) (orderly : AreOrderly ds) where
         record {
           itself = by_base b is up.itself;
           before = λ c lawful_c rest. by_base b is (up.before c lawful_c rest);
-          behind = λ c lawful_c rest. up.behind c lawful_c ((inherits rest lawful_c lawful_t).base b is);
+          behind = λ c lawful_c rest. up.behind c lawful_c ((inherits ds orderly rest lawful_c lawful_t).base b is);
         };
     interface = λ t i u has related lawful_t lawful_u.
         let up = related (lawful-interface ds orderly t i lawful_t has) lawful_u in
         record {
           itself = by_interface i has up.itself;
           before = λ c lawful_c rest. by_interface i has (up.before c lawful_c rest);
-          behind = λ c lawful_c rest. up.behind c lawful_c ((inherits rest lawful_c lawful_t).interface i has);
+          behind = λ c lawful_c rest. up.behind c lawful_c ((inherits ds orderly rest lawful_c lawful_t).interface i has);
         };
     variance = carries-variance;
   }
