@@ -11,5 +11,5 @@ mod variances;
 mod waking;
 
 pub use generics::are_same_generic;
-pub use laws::compatibility_law;
+pub use laws::{compatibility_is_transitive, compatibility_law};
 pub use variances::Variances;
