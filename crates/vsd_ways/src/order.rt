@@ -20,7 +20,12 @@ pub fn upward_order(alloc: Global, depths: &[u16]) -> Result<Vec<u16>, AllocErro
 }
 
 // Adds the numbers of the declarations of one depth.
-fn add_depth(depths: &[u16], layers: &Layers, depth: usize, order: &mut Vec<u16>) -> Result<(), AllocError>
+fn add_depth(
+    depths: &[u16],
+    layers: &Layers,
+    depth: usize,
+    order: &mut Vec<u16>,
+) -> Result<(), AllocError>
     requires few { length depths.now ≤ 1024 }
     requires layers { AreLayers depths.now layers.now.first.items layers.now.next.items }
     requires before { IsOrderTo (length depths.now) depths.now depth 0 order.old.items }
