@@ -8,7 +8,6 @@ use Rattle.std.proofs.lemmas.Option.{slice_get-get_or, slice_get_past, slice_get
 use Rattle.vsd_ast.specs.declared.declarations.Decl.{Decl}
 use Rattle.vsd_ast.specs.declared.declarations.Method.{Method}
 use Rattle.vsd_ast.specs.WellFormed.{IsDeclaration}
-use Rattle.vsd_layers.specs.Layers.{IsNextAt, or_end}
 use Rattle.vsd_lift.specs.Settled.{IsSettled}
 use Rattle.vsd_lift.proofs.ChainLemmas.{slice_get-left, slice_get-seam}
 use Rattle.vsd_lift.proofs.PlaceLemmas.{All-at}
@@ -90,50 +89,6 @@ slice_get-set_other xs i j x other =
       | inl lt ↦ slice_get-get_or (set xs i x) j x (omega (arith, length-set xs i x)) ∙ ap Some (get_or-set_other xs i j x x other) ∙ sym (slice_get-get_or xs j x lt)
       | inr ge ↦ slice_get_past (set xs i x) j (omega (arith, length-set xs i x)) ∙ sym (slice_get_past xs j ge)
     ]
-
--- ---- ranks at a depth
-
--- no rank is between that of a number and that of the next declaration of the depth
-pub layer_gap : (ds : List Decl) (depths : List ℕ) (depth from : ℕ) (next : Option ℕ) → length ds ≤ 1024 → length depths ≡ length ds → IsNextAt depths depth from next → (i : ℕ) → i < length ds → rank depths i < 1024 * depth + or_end next → rank depths i < 1024 * depth + from
-layer_gap ds depths depth from None few long are i inside below =
-    elim (cases_lt (rank depths i) (1024 * depth + from)) [
-      | inl lt ↦ lt
-      | inr ge ↦ absurd (are.least i (omega arith) (omega arith) (omega arith))
-    ]
-layer_gap ds depths depth from (Some n) few long are i inside below =
-    let there : n < length depths = are.is.1.0 in
-    elim (cases_lt (rank depths i) (1024 * depth + from)) [
-      | inl lt ↦ lt
-      | inr ge ↦ (
-          let lower : n ≤ i = are.least i (omega arith) (omega arith) (omega arith) in
-          absurd (omega arith)
-          )
-    ]
-
--- a declaration that comes next is of the depth
-pub in_layer : (depths : List ℕ) (depth from at : ℕ) (next : Option ℕ) → next ≡ Some at → IsNextAt depths depth from next → (at < length depths) × (get_or depths at 0 ≡ depth)
-in_layer depths depth from at next is are =
-    let here = subst (IsNextAt depths depth from) is are in
-    here.is.1
-
--- the next one from a number on is no lower
-pub layer_on : (depths : List ℕ) (depth from : ℕ) (next : Option ℕ) → from ≤ 1024 → IsNextAt depths depth from next → from ≤ or_end next
-layer_on depths depth from None few are = few
-layer_on depths depth from (Some n) few are = are.is.0
-
--- every rank is below those of the depths that are no declaration's
-pub all_below : (ds : List Decl) (depths : List ℕ) (count depth : ℕ) → length ds ≤ 1024 → length depths ≡ length ds → ((i : ℕ) → i < length depths → get_or depths i 0 < count) → count ≤ depth → (i : ℕ) → i < length ds → rank depths i < 1024 * depth
-all_below ds depths count depth few long bound past i inside =
-    let one = bound i (omega arith) in
-    omega arith
-
--- the row of a declaration of the depth, and then as far as the next one of the depth
-pub below-layer : {A : Type 0} (ds : List Decl) (depths : List ℕ) (Relates : Place → A → Type 0) (table : List (List A)) (depth at : ℕ) (next : Option ℕ) (row : List A) → length ds ≤ 1024 → length depths ≡ length ds → (at < length depths) × (get_or depths at 0 ≡ depth) → IsNextAt depths depth (at + 1) next → TabulatesRow ds Relates at row → TabulatesBelow ds depths (1024 * depth + at) Relates table → TabulatesBelow ds depths (1024 * depth + or_end next) Relates (set table at row)
-below-layer ds depths Relates table depth at next row few long here are filled before =
-    let inside : at < length ds = omega (arith, here.0) in
-    let ranked : rank depths at ≡ 1024 * depth + at = omega (arith, here.1) in
-    let step = below-set ds depths Relates table (1024 * depth + at) (1024 * depth + (at + 1)) at row few inside ranked (omega arith) filled before in
-    below-skip ds depths Relates (set table at row) (1024 * depth + (at + 1)) (1024 * depth + or_end next) (layer_gap ds depths depth (at + 1) next few long are) step
 
 -- ---- rows and tables that grow at their ends
 

@@ -1,6 +1,6 @@
 use Rattle.std.proofs.Common.{◌*◌, ◌≤◌, arith}
 use Rattle.vsd_roots.proofs.AbstractLemmas.{marks-end}
-use Rattle.vsd_roots.proofs.TableLemmas.{all_below}
+use Rattle.vsd_roots.proofs.LayerLemmas.{all_below}
 use Rattle.vsd_roots.proofs.abstracts.abstract_bodies.Goals as goal
 
 pub returns : goal.returns

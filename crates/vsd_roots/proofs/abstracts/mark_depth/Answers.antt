@@ -1,9 +1,10 @@
 use Rattle.std.proofs.Common.{◌≡◌, ℕ, ◌+◌, ◌*◌, Bool, List, set, sym, ap, subst, arith}
 use Rattle.vsd_layers.specs.Layers.{IsNextAt, or_end}
+use Rattle.vsd_layers.proofs.LayerLemmas.{in_layer}
 use Rattle.vsd_roots.specs.Bodies.{MarksBelow}
 use Rattle.vsd_roots.specs.Order.{rank}
 use Rattle.vsd_roots.proofs.AbstractLemmas.{marks-set, marks-skip}
-use Rattle.vsd_roots.proofs.TableLemmas.{in_layer, layer_gap}
+use Rattle.vsd_roots.proofs.LayerLemmas.{layer_gap}
 use Rattle.vsd_roots.proofs.abstracts.mark_depth.Goals as goal
 
 pub has_abstract-requires-clause-marked : goal.has_abstract-requires-clause-marked

@@ -1,9 +1,11 @@
 use Rattle.std.proofs.Common.{◌≡◌, ℕ, ◌+◌, ◌*◌, ◌≤◌, sym, ap, subst, arith}
 use Rattle.std.specs.HashMap.{get}
 use Rattle.vsd_layers.specs.Layers.{IsNextAt, or_end}
+use Rattle.vsd_layers.proofs.LayerLemmas.{in_layer, no_lower}
 use Rattle.vsd_roots.specs.Order.{rank, same_name, AreLatest, IsLink, TabulatesBelow}
+use Rattle.vsd_roots.proofs.LayerLemmas.{below-layer, layer_gap}
 use Rattle.vsd_roots.proofs.LinkLemmas.{latest-skip_ranks}
-use Rattle.vsd_roots.proofs.TableLemmas.{below-layer, below-skip, in_layer, layer_gap, layer_on}
+use Rattle.vsd_roots.proofs.TableLemmas.{below-skip}
 use Rattle.vsd_roots.proofs.links.link_depth.Goals as goal
 
 pub loop-next-init : goal.loop-next-init
@@ -39,7 +41,7 @@ loop-next-preserved c =
     let follows : IsNextAt depths depth (at + 1) next = subst (λ (d : ℕ). IsNextAt depths d (at + 1) next) here.1 (c.after-next.ensures depths c.requires.layers here.0) in
     let before = subst (λ (n : ℕ). TabulatesBelow ds depths (1024 * depth + n) (IsLink ds depths) c.loop-next.rows) reach was.filled in
     let ranked : rank depths at ≡ 1024 * depth + at = omega (arith, here.1) in
-    let further : at + 1 ≤ or_end next = layer_on depths depth (at + 1) next (omega (arith, here.0)) follows in
+    let further : at + 1 ≤ or_end next = no_lower depths depth (at + 1) next (omega (arith, here.0)) follows in
     let put : AreLatest ds depths ((1024 * depth + (at + 1)) * 256) (get same_name c.link_row.new.latest) = subst (λ (n : ℕ). AreLatest ds depths n (get same_name c.link_row.new.latest)) (let next_rank : (rank depths at + 1) * 256 ≡ (1024 * depth + (at + 1)) * 256 = omega arith in next_rank) c.in_ok-row.ensures.after in
     record {
       comes = (at + 1, follows);

@@ -1,7 +1,9 @@
 use Rattle.std.proofs.Common.{◌≡◌, ℕ, ◌+◌, ◌*◌, sym, ap, subst, arith}
 use Rattle.vsd_layers.specs.Layers.{IsNextAt, or_end}
+use Rattle.vsd_layers.proofs.LayerLemmas.{in_layer}
 use Rattle.vsd_roots.specs.Order.{IsShallower, TabulatesBelow}
-use Rattle.vsd_roots.proofs.TableLemmas.{below-layer, below-skip, in_layer, layer_gap}
+use Rattle.vsd_roots.proofs.LayerLemmas.{below-layer, layer_gap}
+use Rattle.vsd_roots.proofs.TableLemmas.{below-skip}
 use Rattle.vsd_roots.proofs.links.shallower_depth.Goals as goal
 
 pub loop-next-init : goal.loop-next-init

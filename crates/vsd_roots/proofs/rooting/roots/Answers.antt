@@ -1,6 +1,7 @@
 use Rattle.std.proofs.Common.{◌*◌, ◌≤◌, arith}
 use Rattle.vsd_roots.specs.Slots.{IsRoot}
-use Rattle.vsd_roots.proofs.TableLemmas.{all_below, below-end}
+use Rattle.vsd_roots.proofs.LayerLemmas.{all_below}
+use Rattle.vsd_roots.proofs.TableLemmas.{below-end}
 use Rattle.vsd_roots.proofs.rooting.roots.Goals as goal
 
 pub returns : goal.returns
