@@ -87,6 +87,26 @@ fn target_row(
     Ok(row)
 }
 
+// The same, without a walk upward where the declaration has no override.
+fn targets_of(
+    alloc: Global,
+    h: &Hierarchy<'_>,
+    order: &[u16],
+    at: usize,
+) -> Result<Items<Option<Target>>, AllocError>
+    requires settled { IsSettled h.now.decls.now h.now.places.now h.now.depths.now }
+    requires within { at < length h.now.decls.now }
+    requires order { IsOrder (length h.now.decls.now) h.now.depths.now order.now }
+    requires owners { AreLawfulOwners h.now.decls.now }
+    ensures { IfOk result (λ row. (x : Decl) → slice_get h.now.decls.now at ≡ Some x →
+        AreTargets h.now.decls.now at x row) }
+{
+    if h.decls[at].overrides.is_empty() {
+        return Ok(Items::new(alloc));
+    }
+    target_row(alloc, h, order, at)
+}
+
 /// What each override implements, in a row for each declaration (ECMA-335, II.10.3.2, II.12.2). None where it implements
 /// nothing.
 ///
@@ -102,7 +122,7 @@ pub fn targets(alloc: Global, h: &Hierarchy<'_>) -> Result<Items<Items<Option<Ta
     let order = upward_order(alloc, h.depths)?;
     let mut rows = Items::new(alloc);
     for at in 0..h.decls.len() {
-        let row = target_row(alloc, h, order.as_slice(), at)?;
+        let row = targets_of(alloc, h, order.as_slice(), at)?;
         rows.push(row)?;
     }
     Ok(rows)

@@ -1,6 +1,7 @@
 -- Lemmas that several proofs of this crate share.
 pub mod AbstractLemmas
 pub mod BodyLaws
+pub mod LayerLemmas
 pub mod LinkLemmas
 pub mod MatchLemmas
 pub mod RootLaws

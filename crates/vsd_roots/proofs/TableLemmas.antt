@@ -90,30 +90,6 @@ slice_get-set_other xs i j x other =
       | inr ge ↦ slice_get_past (set xs i x) j (omega (arith, length-set xs i x)) ∙ sym (slice_get_past xs j ge)
     ]
 
--- ---- ranks at a depth
-
--- a declaration of another depth has not the rank that it would have here
-pub other_depth : (ds : List Decl) (depths : List ℕ) (depth at : ℕ) → length ds ≤ 1024 → at < length ds → (get_or depths at 0 ≡ depth → ⊥) → (i : ℕ) → i < length ds → rank depths i < 1024 * depth + (at + 1) → rank depths i < 1024 * depth + at
-other_depth ds depths depth at few inside other i i_in below =
-    elim (cases_lt (rank depths i) (1024 * depth + at)) [
-      | inl lt ↦ lt
-      | inr ge ↦ (
-          let same : i ≡ at = omega arith in
-          let deep : get_or depths i 0 ≡ depth = omega arith in
-          absurd (other (ap (λ (k : ℕ). get_or depths k 0) (sym same) ∙ deep))
-          )
-    ]
-
--- behind the last declaration there is none of the depth
-pub depth_done : (ds : List Decl) (depths : List ℕ) (depth at : ℕ) → length ds ≤ 1024 → length ds ≤ at → (i : ℕ) → i < length ds → rank depths i < 1024 * (depth + 1) → rank depths i < 1024 * depth + at
-depth_done ds depths depth at few past i i_in below = omega arith
-
--- every rank is below those of greater depths
-pub all_below : (ds : List Decl) (depths : List ℕ) (most depth : ℕ) → length ds ≤ 1024 → length depths ≡ length ds → ((i : ℕ) → i < length depths → get_or depths i 0 ≤ most) → most + 1 ≤ depth → (i : ℕ) → i < length ds → rank depths i < 1024 * depth
-all_below ds depths most depth few long bound past i inside =
-    let one = bound i (omega arith) in
-    omega arith
-
 -- ---- rows and tables that grow at their ends
 
 module _ {A : Type 0} (ds : List Decl) (Relates : Place → A → Type 0) where

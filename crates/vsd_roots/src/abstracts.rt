@@ -2,6 +2,7 @@
 ghost use Rattle.std.specs.Prelude.{◌≡◌, ℕ, ◌+◌, ◌*◌, ◌<◌, ◌≤◌, ◌⊎◌, ◌↔◌, true, false, length, slice_get, slice_index_or, IfOk, OnOk, IsTrue, Some, if◌then◌else◌};
 ghost use Rattle.std.specs.HashSet.{contains};
 ghost use Rattle.vsd_ast.specs.declared.declarations.Method.{Method};
+ghost use Rattle.vsd_layers.specs.Layers.{AreLayers};
 ghost use Rattle.vsd_least.specs.Least.{IsLeast};
 ghost use Rattle.vsd_lift.specs.Chain.{IsChain};
 ghost use Rattle.vsd_lift.specs.Settled.{IsSettled};
@@ -12,11 +13,12 @@ ghost use Rattle.vsd_roots.specs.Order.{rank};
 ghost use Rattle.vsd_roots.specs.Slots.{IsRoot};
 
 use crate::Place;
-use crate::rows::{deepest, entry_of};
+use crate::rows::entry_of;
 use sqlite_items::Items;
 use std::alloc::{AllocError, Global};
 use std::collections::HashSet;
 use vsd_ast::Decl;
+use vsd_layers::{Layers, by_depth};
 use vsd_least::shown;
 use vsd_lift::{Hierarchy, chain, extended};
 
@@ -139,20 +141,22 @@ fn has_abstract(
 fn mark_depth(
     alloc: Global,
     h: &Hierarchy<'_>,
+    layers: &Layers,
     roots: &[Items<Place>],
-    depth: u32,
+    depth: usize,
     marks: &mut Vec<bool>,
 ) -> Result<(), AllocError>
     requires settled { IsSettled h.now.decls.now h.now.places.now h.now.depths.now }
+    requires layers { AreLayers h.now.depths.now layers.now.first.items layers.now.next.items }
     requires roots { Tabulates h.now.decls.now (IsRoot h.now.decls.now) roots.now }
     requires marked { MarksBelow h.now.decls.now h.now.depths.now (1024 * depth) marks.old.items }
     ensures { OnOk result (MarksBelow h.now.decls.now h.now.depths.now (1024 * (depth + 1)) marks.new.items) }
 {
-    for at in 0..h.decls.len() {
-        if u32::from(h.depths[at]) != depth {
-            continue;
-        }
-        marks[at] = has_abstract(alloc, h, roots, marks.as_slice(), at)?;
+    let mut next = layers.first(depth);
+    while let Some(at) = next {
+        let place = at as usize;
+        marks[place] = has_abstract(alloc, h, roots, marks.as_slice(), place)?;
+        next = layers.after(at);
     }
     Ok(())
 }
@@ -171,9 +175,9 @@ pub fn abstract_bodies(
     ensures { IfOk result (λ marks. Marks h.now.decls.now marks.items) }
 {
     let mut marks = vec![in alloc; false; h.decls.len()]?;
-    let end = u32::from(deepest(h.depths)) + 1;
-    for depth in 0..end {
-        mark_depth(alloc, h, roots, depth, &mut marks)?;
+    let layers = by_depth(alloc, h.depths)?;
+    for depth in 0..layers.count() {
+        mark_depth(alloc, h, &layers, roots, depth, &mut marks)?;
     }
     Ok(marks)
 }

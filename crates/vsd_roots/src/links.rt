@@ -1,15 +1,17 @@
 //! The methods of one name, each with the one before it, so that those above a class are found without a walk over all.
 ghost use Rattle.std.specs.Prelude.{◌≡◌, ◌+◌, ◌*◌, ◌<◌, length, slice_index, IfOk, OnOk};
 ghost use Rattle.std.specs.HashMap.{get};
+ghost use Rattle.vsd_layers.specs.Layers.{AreLayers};
 ghost use Rattle.vsd_lift.specs.Settled.{IsSettled};
 ghost use Rattle.vsd_roots.specs.Methods.{Tabulates, TabulatesRow};
 ghost use Rattle.vsd_roots.specs.Order.{rank, same_name, AreLatest, IsLink, IsShallower, TabulatesBelow};
 
 use crate::Place;
-use crate::rows::{deepest, empty_rows};
+use crate::rows::empty_rows;
 use sqlite_items::Items;
 use std::alloc::{AllocError, Global};
 use std::collections::HashMap;
+use vsd_layers::{Layers, by_depth};
 use vsd_lift::Hierarchy;
 
 // The links of the methods of one declaration, which become the latest of their names, the first of them last.
@@ -45,11 +47,13 @@ fn link_row<'a>(
 fn link_depth<'a>(
     alloc: Global,
     h: &Hierarchy<'a>,
-    depth: u32,
+    layers: &Layers,
+    depth: usize,
     latest: &mut HashMap<&'a [u8], Place>,
     rows: &mut Items<Items<Option<Place>>>,
 ) -> Result<(), AllocError>
     requires settled { IsSettled h.now.decls.now h.now.places.now h.now.depths.now }
+    requires layers { AreLayers h.now.depths.now layers.now.first.items layers.now.next.items }
     requires before { AreLatest h.now.decls.now h.now.depths.now
         (1024 * depth * 256) (get same_name latest.old) }
     requires filled { TabulatesBelow h.now.decls.now h.now.depths.now (1024 * depth)
@@ -59,12 +63,11 @@ fn link_depth<'a>(
     ensures fills { OnOk result (TabulatesBelow h.now.decls.now h.now.depths.now
         (1024 * (depth + 1)) (IsLink h.now.decls.now h.now.depths.now) rows.new) }
 {
-    for at in 0..h.decls.len() {
-        if u32::from(h.depths[at]) != depth {
-            continue;
-        }
-        let row = link_row(alloc, h, at as u16, latest)?;
-        rows.set(at, row);
+    let mut next = layers.first(depth);
+    while let Some(at) = next {
+        let row = link_row(alloc, h, at, latest)?;
+        rows.set(at as usize, row);
+        next = layers.after(at);
     }
     Ok(())
 }
@@ -103,11 +106,13 @@ fn shallower_row<'a>(
 fn shallower_depth<'a>(
     alloc: Global,
     h: &Hierarchy<'a>,
-    depth: u32,
+    layers: &Layers,
+    depth: usize,
     latest: &HashMap<&'a [u8], Place>,
     rows: &mut Items<Items<Option<Place>>>,
 ) -> Result<(), AllocError>
     requires settled { IsSettled h.now.decls.now h.now.places.now h.now.depths.now }
+    requires layers { AreLayers h.now.depths.now layers.now.first.items layers.now.next.items }
     requires latest { AreLatest h.now.decls.now h.now.depths.now
         (1024 * depth * 256) (get same_name latest.now) }
     requires filled { TabulatesBelow h.now.decls.now h.now.depths.now (1024 * depth)
@@ -115,12 +120,11 @@ fn shallower_depth<'a>(
     ensures { OnOk result (TabulatesBelow h.now.decls.now h.now.depths.now
         (1024 * (depth + 1)) (IsShallower h.now.decls.now h.now.depths.now) rows.new) }
 {
-    for at in 0..h.decls.len() {
-        if u32::from(h.depths[at]) != depth {
-            continue;
-        }
-        let row = shallower_row(alloc, h, at, latest)?;
-        rows.set(at, row);
+    let mut next = layers.first(depth);
+    while let Some(at) = next {
+        let row = shallower_row(alloc, h, at as usize, latest)?;
+        rows.set(at as usize, row);
+        next = layers.after(at);
     }
     Ok(())
 }
@@ -145,10 +149,10 @@ pub(crate) fn links(alloc: Global, h: &Hierarchy<'_>) -> Result<LinkTables, Allo
     let mut latest = HashMap::new(alloc);
     let mut before = empty_rows(alloc, h.decls.len())?;
     let mut shallower = empty_rows(alloc, h.decls.len())?;
-    let end = u32::from(deepest(h.depths)) + 1;
-    for depth in 0..end {
-        shallower_depth(alloc, h, depth, &latest, &mut shallower)?;
-        link_depth(alloc, h, depth, &mut latest, &mut before)?;
+    let layers = by_depth(alloc, h.depths)?;
+    for depth in 0..layers.count() {
+        shallower_depth(alloc, h, &layers, depth, &latest, &mut shallower)?;
+        link_depth(alloc, h, &layers, depth, &mut latest, &mut before)?;
     }
     Ok(LinkTables { before, shallower })
 }

@@ -177,6 +177,28 @@ fn overridden_row(
     Ok(row)
 }
 
+// The same, without a walk upward where the declaration has no method.
+fn overridden_of(
+    alloc: Global,
+    h: &Hierarchy<'_>,
+    links: &[Items<Option<Place>>],
+    earlier: &[Items<Option<Place>>],
+    shallower: &[Items<Option<Place>>],
+    at: usize,
+) -> Result<Items<Option<Place>>, AllocError>
+    requires settled { IsSettled h.now.decls.now h.now.places.now h.now.depths.now }
+    requires within { at < length h.now.decls.now }
+    requires links { Tabulates h.now.decls.now (IsLink h.now.decls.now h.now.depths.now) links.now }
+    requires earlier { Tabulates h.now.decls.now (IsEarlier h.now.decls.now h.now.depths.now) earlier.now }
+    requires shallower { Tabulates h.now.decls.now (IsShallower h.now.decls.now h.now.depths.now) shallower.now }
+    ensures { IfOk result (TabulatesRow h.now.decls.now (IsOverridden h.now.decls.now) at) }
+{
+    if h.decls[at].methods.is_empty() {
+        return Ok(Items::new(alloc));
+    }
+    overridden_row(alloc, h, links, earlier, shallower, at)
+}
+
 /// What each virtual method overrides, if anything, in a row for each declaration (ECMA-335, II.9.9, II.10.3.1).
 ///
 /// A method without `newslot` overrides the first method of its name and signature, that is virtual and not private, of
@@ -192,7 +214,7 @@ pub fn overridden(
     let before_class = earlier(alloc, h, linked.before.as_slice())?;
     let mut rows = Items::new(alloc);
     for at in 0..h.decls.len() {
-        let row = overridden_row(
+        let row = overridden_of(
             alloc,
             h,
             linked.before.as_slice(),

@@ -1,14 +1,16 @@
 //! The roots of virtual methods.
 ghost use Rattle.std.specs.Prelude.{◌≡◌, ◌+◌, ◌*◌, ◌<◌, length, IfOk, OnOk, IfSome, IsSome};
+ghost use Rattle.vsd_layers.specs.Layers.{AreLayers};
 ghost use Rattle.vsd_lift.specs.Settled.{IsSettled};
 ghost use Rattle.vsd_roots.specs.Methods.{Tabulates, TabulatesRow, entry};
 ghost use Rattle.vsd_roots.specs.Order.{rank, TabulatesBelow};
 ghost use Rattle.vsd_roots.specs.Slots.{IsOverridden, IsRoot};
 
 use crate::Place;
-use crate::rows::{deepest, empty_rows, entry_of};
+use crate::rows::{empty_rows, entry_of};
 use sqlite_items::Items;
 use std::alloc::{AllocError, Global};
+use vsd_layers::{Layers, by_depth};
 use vsd_lift::Hierarchy;
 
 // The root of the method that is overridden, and the method itself where there is none.
@@ -55,23 +57,24 @@ fn roots_row(
 fn roots_depth(
     alloc: Global,
     h: &Hierarchy<'_>,
+    layers: &Layers,
     overridden: &[Items<Option<Place>>],
-    depth: u32,
+    depth: usize,
     roots: &mut Items<Items<Place>>,
 ) -> Result<(), AllocError>
     requires settled { IsSettled h.now.decls.now h.now.places.now h.now.depths.now }
+    requires layers { AreLayers h.now.depths.now layers.now.first.items layers.now.next.items }
     requires overridden { Tabulates h.now.decls.now (IsOverridden h.now.decls.now) overridden.now }
     requires filled { TabulatesBelow h.now.decls.now h.now.depths.now (1024 * depth)
         (IsRoot h.now.decls.now) roots.old }
     ensures { OnOk result (TabulatesBelow h.now.decls.now h.now.depths.now (1024 * (depth + 1))
         (IsRoot h.now.decls.now) roots.new) }
 {
-    for at in 0..h.decls.len() {
-        if u32::from(h.depths[at]) != depth {
-            continue;
-        }
-        let row = roots_row(alloc, h, overridden, roots.as_slice(), at as u16)?;
-        roots.set(at, row);
+    let mut next = layers.first(depth);
+    while let Some(at) = next {
+        let row = roots_row(alloc, h, overridden, roots.as_slice(), at)?;
+        roots.set(at as usize, row);
+        next = layers.after(at);
     }
     Ok(())
 }
@@ -88,9 +91,9 @@ pub fn roots(
     ensures { IfOk result (Tabulates h.now.decls.now (IsRoot h.now.decls.now)) }
 {
     let mut made = empty_rows(alloc, h.decls.len())?;
-    let end = u32::from(deepest(h.depths)) + 1;
-    for depth in 0..end {
-        roots_depth(alloc, h, overridden, depth, &mut made)?;
+    let layers = by_depth(alloc, h.depths)?;
+    for depth in 0..layers.count() {
+        roots_depth(alloc, h, &layers, overridden, depth, &mut made)?;
     }
     Ok(made)
 }

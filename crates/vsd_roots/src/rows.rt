@@ -1,5 +1,5 @@
 //! Tables with a row for each declaration.
-ghost use Rattle.std.specs.Prelude.{◌≡◌, ℕ, ◌<◌, ◌≤◌, length, slice_index, IfOk, IsSome};
+ghost use Rattle.std.specs.Prelude.{◌≡◌, length, IfOk, IsSome};
 ghost use Rattle.vsd_roots.specs.Methods.{entry};
 
 use crate::Place;
@@ -18,17 +18,6 @@ pub(crate) fn empty_rows<T: Drop>(
         rows.push(Items::new(alloc))?;
     }
     Ok(rows)
-}
-
-/// The greatest of the depths; 0 of none.
-pub(crate) fn deepest(depths: &[u16]) -> u16
-    ensures { (i : ℕ) → i < length depths.now → slice_index depths.now i ≤ result }
-{
-    let mut most = 0;
-    for depth in depths {
-        most = most.max(*depth);
-    }
-    most
 }
 
 /// The entry of the method at `at`.

@@ -1,9 +1,11 @@
 -- The order by depth, made depth by depth.
-use Rattle.std.proofs.Common.{◌≡◌, ℕ, ◌+◌, ◌<◌, ◌≤◌, List, [], ◌∷◌, ◌++◌, length, get_or, refl, sym, ap, ◌∙◌, subst, Some, ◌⊎◌, inl, inr, arith}
+use Rattle.std.proofs.Common.{◌≡◌, ℕ, ◌+◌, ◌<◌, ◌≤◌, List, [], ◌∷◌, ◌++◌, length, get_or, refl, sym, ap, ◌∙◌, subst, Option, Some, ◌⊎◌, inl, inr, arith}
 use Rattle.std.specs.List.{slice_get}
 use Rattle.std.proofs.lemmas.Bool.{cases_lt}
 use Rattle.std.proofs.lemmas.List.{length_push}
 use Rattle.std.proofs.lemmas.Option.{slice_get_within}
+use Rattle.vsd_layers.specs.Layers.{IsNextAt, or_end}
+use Rattle.vsd_layers.proofs.LayerLemmas.{none_between}
 use Rattle.vsd_lift.proofs.ChainLemmas.{slice_get-left, slice_get-seam}
 use Rattle.vsd_ways.specs.Order.{IsOrder, IsOrderTo}
 
@@ -15,17 +17,13 @@ module _ (count : ℕ) (depths : List ℕ) where
     upward = λ i n m at inside lower. absurd cc;
   })
 
-  pub order_skip : (depth at : ℕ) (order : List ℕ) → (get_or depths at 0 ≡ depth → ⊥) → IsOrderTo count depths depth at order → IsOrderTo count depths depth (at + 1) order
-  order_skip depth at order other o = record {
+  -- as far as the next declaration of the depth
+  pub order_skip : (depth from : ℕ) (next : Option ℕ) (order : List ℕ) → count ≡ length depths → IsNextAt depths depth from next → IsOrderTo count depths depth from order → IsOrderTo count depths depth (or_end next) order
+  order_skip depth from next order all are o = record {
     within = o.within;
     whole = λ n inside e. elim e [
       | inl lt ↦ o.whole n inside (inl lt)
-      | inr both ↦ (
-          elim (cases_lt n at) [
-            | inl lt ↦ o.whole n inside (inr (both.0, lt))
-            | inr ge ↦ absurd (other (ap (λ (k : ℕ). get_or depths k 0) (let last : at ≡ n = omega (arith, both.1) in last) ∙ both.0))
-          ]
-          )
+      | inr both ↦ o.whole n inside (inr (both.0, none_between depths depth from next are n (omega (arith, all)) both.0 both.1))
     ];
     upward = o.upward;
   }
@@ -80,8 +78,8 @@ module _ (count : ℕ) (depths : List ℕ) where
     upward = o.upward;
   }
 
-  pub order_end : (depth most : ℕ) (order : List ℕ) → ((n : ℕ) → n < count → get_or depths n 0 ≤ most) → most < depth → IsOrderTo count depths depth 0 order → IsOrder count depths order
-  order_end depth most order all past o = record {
+  pub order_end : (depth tall : ℕ) (order : List ℕ) → ((n : ℕ) → n < count → get_or depths n 0 < tall) → tall ≤ depth → IsOrderTo count depths depth 0 order → IsOrder count depths order
+  order_end depth tall order all past o = record {
     within = o.within;
     whole = λ n inside. o.whole n inside (inl (omega (arith, all n inside)));
     upward = o.upward;

@@ -1,37 +1,59 @@
-use Rattle.std.proofs.Common.{◌≡◌, ℕ, ◌+◌, ◌*◌, ◌<◌, ◌≤◌, Bool, List, length, get_or, sym, ◌∙◌, subst, arith}
+use Rattle.std.proofs.Common.{◌≡◌, ℕ, ◌+◌, ◌*◌, Bool, List, set, sym, ap, subst, arith}
+use Rattle.vsd_layers.specs.Layers.{IsNextAt, or_end}
+use Rattle.vsd_layers.proofs.LayerLemmas.{in_layer}
 use Rattle.vsd_roots.specs.Bodies.{MarksBelow}
 use Rattle.vsd_roots.specs.Order.{rank}
 use Rattle.vsd_roots.proofs.AbstractLemmas.{marks-set, marks-skip}
-use Rattle.vsd_roots.proofs.TableLemmas.{depth_done, other_depth}
+use Rattle.vsd_roots.proofs.LayerLemmas.{layer_gap}
 use Rattle.vsd_roots.proofs.abstracts.mark_depth.Goals as goal
-
-pub loop-at-preserved-then-from-depth : goal.loop-at-preserved-then-from-depth
-loop-at-preserved-then-from-depth c =
-    let h = c.args.h.now in
-    let ds = h.decls.now in
-    let few = c.requires.settled.few in
-    let inside : c.loop-at.at < length ds = omega arith in
-    marks-skip ds h.depths.now c.loop-at.marks.items (1024 * c.args.depth + c.loop-at.at) (1024 * c.args.depth + (c.loop-at.at + 1)) (other_depth ds h.depths.now c.args.depth c.loop-at.at few inside (λ is. c.if-from-depth.true (c.from.ensures ∙ is))) c.loop-at.invariant
 
 pub has_abstract-requires-clause-marked : goal.has_abstract-requires-clause-marked
 has_abstract-requires-clause-marked c =
     let h = c.args.h.now in
-    let deep : get_or h.depths.now c.loop-at.at 0 ≡ c.args.depth = sym c.from.ensures ∙ c.if-from-depth.false in
-    let ranked : 1024 * c.args.depth + c.loop-at.at ≡ rank h.depths.now c.loop-at.at = omega arith in
-    subst (λ (l : List Bool). MarksBelow h.decls.now h.depths.now (rank h.depths.now c.loop-at.at) l) (sym c.as_slice.ensures.value) (subst (λ (n : ℕ). MarksBelow h.decls.now h.depths.now n c.loop-at.marks.items) ranked c.loop-at.invariant)
+    let ds = h.decls.now in
+    let depths = h.depths.now in
+    let at = c.in-Some.at in
+    let was = c.loop-next.invariant in
+    let reach : or_end c.loop-next.next ≡ at = ap or_end c.in-Some.is in
+    let here = in_layer depths c.args.depth was.comes.0 at c.loop-next.next c.in-Some.is was.comes.1 in
+    let ranked : 1024 * c.args.depth + or_end c.loop-next.next ≡ rank depths at = omega (arith, here.1, reach) in
+    subst (λ (l : List Bool). MarksBelow ds depths (rank depths at) l) (sym c.as_slice.ensures.value) (subst (λ (n : ℕ). MarksBelow ds depths n c.loop-next.marks.items) ranked was.filled)
 
-pub loop-at-preserved : goal.loop-at-preserved
-loop-at-preserved c =
+pub loop-next-init : goal.loop-next-init
+loop-next-init c =
     let h = c.args.h.now in
     let ds = h.decls.now in
+    let depths = h.depths.now in
+    let depth = c.args.depth in
     let few = c.requires.settled.few in
-    let inside : c.loop-at.at < length ds = omega arith in
-    let deep : get_or h.depths.now c.loop-at.at 0 ≡ c.args.depth = sym c.from.ensures ∙ c.if-from-depth.false in
-    let ranked : rank h.depths.now c.loop-at.at ≡ 1024 * c.args.depth + c.loop-at.at = omega arith in
-    marks-set ds h.depths.now c.loop-at.marks.items (1024 * c.args.depth + c.loop-at.at) (1024 * c.args.depth + (c.loop-at.at + 1)) c.loop-at.at c.in_ok-marks.field-0 few inside ranked (omega arith) c.in_ok-marks.ensures c.loop-at.invariant
+    let long = c.requires.settled.hierarchy.deep.count in
+    let next = c.first-next.result in
+    let are : IsNextAt depths depth 0 next = c.first-next.ensures depths c.requires.layers in
+    let gap = layer_gap ds depths depth 0 next few long are in
+    record {
+      comes = (0, are);
+      filled = marks-skip ds depths c.args.marks.now.items (1024 * depth + 0) (1024 * depth + or_end next) gap (subst (λ (n : ℕ). MarksBelow ds depths n c.args.marks.now.items) (omega arith) c.requires.marked);
+    }
 
-pub returns : goal.returns
-returns c =
+pub loop-next-preserved : goal.loop-next-preserved
+loop-next-preserved c =
     let h = c.args.h.now in
-    let past : length h.decls.now ≤ c.loop-at.at = omega arith in
-    marks-skip h.decls.now h.depths.now c.loop-at.marks.items (1024 * c.args.depth + c.loop-at.at) (1024 * (c.args.depth + 1)) (depth_done h.decls.now h.depths.now c.args.depth c.loop-at.at c.requires.settled.few past) c.loop-at.invariant
+    let ds = h.decls.now in
+    let depths = h.depths.now in
+    let depth = c.args.depth in
+    let few = c.requires.settled.few in
+    let long = c.requires.settled.hierarchy.deep.count in
+    let at = c.in-Some.at in
+    let next = c.after-next.result in
+    let was = c.loop-next.invariant in
+    let reach : or_end c.loop-next.next ≡ at = ap or_end c.in-Some.is in
+    let here = in_layer depths depth was.comes.0 at c.loop-next.next c.in-Some.is was.comes.1 in
+    let follows : IsNextAt depths depth (at + 1) next = subst (λ (d : ℕ). IsNextAt depths d (at + 1) next) here.1 (c.after-next.ensures depths c.requires.layers here.0) in
+    let ranked : rank depths at ≡ 1024 * depth + at = omega (arith, here.1) in
+    let before = subst (λ (n : ℕ). MarksBelow ds depths (1024 * depth + n) c.loop-next.marks.items) reach was.filled in
+    let mark = c.in_ok-marks.field-0 in
+    let step = marks-set ds depths c.loop-next.marks.items (1024 * depth + at) (1024 * depth + (at + 1)) at mark few (omega (arith, here.0)) ranked (omega arith) c.in_ok-marks.ensures before in
+    record {
+      comes = (at + 1, follows);
+      filled = marks-skip ds depths (set c.loop-next.marks.items at mark) (1024 * depth + (at + 1)) (1024 * depth + or_end next) (layer_gap ds depths depth (at + 1) next few long follows) step;
+    }

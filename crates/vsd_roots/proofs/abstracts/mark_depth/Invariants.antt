@@ -1,7 +1,14 @@
--- The declarations below this rank are marked.
-use Rattle.std.proofs.Common.{◌+◌, ◌*◌}
+-- The declarations below the rank of the next one are marked.
+use Rattle.std.proofs.Common.{ℕ, ◌+◌, ◌-◌, ◌*◌}
+use Rattle.vsd_layers.specs.Layers.{IsNextAt, or_end}
 use Rattle.vsd_roots.specs.Bodies.{MarksBelow}
 use Rattle.vsd_roots.proofs.abstracts.mark_depth.Given as goal
 
-abbrev pub invariant-loop-at : goal.invariant-loop-at
-invariant-loop-at l = MarksBelow l.h.decls.now l.h.depths.now (1024 * l.depth + l.at) l.marks.items
+abbrev pub invariant-loop-next : goal.invariant-loop-next
+invariant-loop-next l = record {
+  comes : (from : ℕ) × IsNextAt l.h.depths.now l.depth from l.next;
+  filled : MarksBelow l.h.decls.now l.h.depths.now (1024 * l.depth + or_end l.next) l.marks.items;
+}
+
+abbrev pub decreases-loop-next : goal.decreases-loop-next
+decreases-loop-next l = 1024 - or_end l.next

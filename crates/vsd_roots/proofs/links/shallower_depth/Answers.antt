@@ -1,29 +1,43 @@
-use Rattle.std.proofs.Common.{◌≡◌, ◌+◌, ◌*◌, ◌<◌, ◌≤◌, length, get_or, sym, ◌∙◌, subst, arith}
-use Rattle.vsd_roots.specs.Order.{IsShallower, TabulatesBelow, rank}
-use Rattle.vsd_roots.proofs.TableLemmas.{below-set, below-skip, depth_done, other_depth}
+use Rattle.std.proofs.Common.{◌≡◌, ℕ, ◌+◌, ◌*◌, sym, ap, subst, arith}
+use Rattle.vsd_layers.specs.Layers.{IsNextAt, or_end}
+use Rattle.vsd_layers.proofs.LayerLemmas.{in_layer}
+use Rattle.vsd_roots.specs.Order.{IsShallower, TabulatesBelow}
+use Rattle.vsd_roots.proofs.LayerLemmas.{below-layer, layer_gap}
+use Rattle.vsd_roots.proofs.TableLemmas.{below-skip}
 use Rattle.vsd_roots.proofs.links.shallower_depth.Goals as goal
 
-pub loop-at-preserved-then-from-depth : goal.loop-at-preserved-then-from-depth
-loop-at-preserved-then-from-depth c =
+pub loop-next-init : goal.loop-next-init
+loop-next-init c =
     let h = c.args.h.now in
     let ds = h.decls.now in
+    let depths = h.depths.now in
+    let depth = c.args.depth in
     let few = c.requires.settled.few in
-    let inside : c.loop-at.at < length ds = omega arith in
-    below-skip ds h.depths.now (IsShallower ds h.depths.now) c.loop-at.rows (1024 * c.args.depth + c.loop-at.at) (1024 * c.args.depth + (c.loop-at.at + 1)) (other_depth ds h.depths.now c.args.depth c.loop-at.at few inside (λ is. c.if-from-depth.true (c.from.ensures ∙ is))) c.loop-at.invariant
+    let long = c.requires.settled.hierarchy.deep.count in
+    let next = c.first-next.result in
+    let are : IsNextAt depths depth 0 next = c.first-next.ensures depths c.requires.layers in
+    let gap = layer_gap ds depths depth 0 next few long are in
+    record {
+      comes = (0, are);
+      filled = below-skip ds depths (IsShallower ds depths) c.args.rows.now (1024 * depth + 0) (1024 * depth + or_end next) gap (subst (λ (n : ℕ). TabulatesBelow ds depths n (IsShallower ds depths) c.args.rows.now) (omega arith) c.requires.filled);
+    }
 
-pub loop-at-preserved : goal.loop-at-preserved
-loop-at-preserved c =
+pub loop-next-preserved : goal.loop-next-preserved
+loop-next-preserved c =
     let h = c.args.h.now in
     let ds = h.decls.now in
+    let depths = h.depths.now in
+    let depth = c.args.depth in
     let few = c.requires.settled.few in
-    let inside : c.loop-at.at < length ds = omega arith in
-    let next = 1024 * c.args.depth + (c.loop-at.at + 1) in
-    let deep : get_or h.depths.now c.loop-at.at 0 ≡ c.args.depth = sym c.from.ensures ∙ c.if-from-depth.false in
-    let ranked : rank h.depths.now c.loop-at.at ≡ 1024 * c.args.depth + c.loop-at.at = omega arith in
-    subst (λ l. TabulatesBelow ds h.depths.now next (IsShallower ds h.depths.now) l) (sym c.set.ensures) (below-set ds h.depths.now (IsShallower ds h.depths.now) c.loop-at.rows (1024 * c.args.depth + c.loop-at.at) next c.loop-at.at c.in_ok-row.row few inside ranked (omega arith) c.in_ok-row.ensures c.loop-at.invariant)
-
-pub returns : goal.returns
-returns c =
-    let h = c.args.h.now in
-    let past : length h.decls.now ≤ c.loop-at.at = omega arith in
-    below-skip h.decls.now h.depths.now (IsShallower h.decls.now h.depths.now) c.loop-at.rows (1024 * c.args.depth + c.loop-at.at) (1024 * (c.args.depth + 1)) (depth_done h.decls.now h.depths.now c.args.depth c.loop-at.at c.requires.settled.few past) c.loop-at.invariant
+    let long = c.requires.settled.hierarchy.deep.count in
+    let at = c.in-Some.at in
+    let next = c.after-next.result in
+    let was = c.loop-next.invariant in
+    let reach : or_end c.loop-next.next ≡ at = ap or_end c.in-Some.is in
+    let here = in_layer depths depth was.comes.0 at c.loop-next.next c.in-Some.is was.comes.1 in
+    let follows : IsNextAt depths depth (at + 1) next = subst (λ (d : ℕ). IsNextAt depths d (at + 1) next) here.1 (c.after-next.ensures depths c.requires.layers here.0) in
+    let before = subst (λ (n : ℕ). TabulatesBelow ds depths (1024 * depth + n) (IsShallower ds depths) c.loop-next.rows) reach was.filled in
+    record {
+      comes = (at + 1, follows);
+      filled = subst (λ l. TabulatesBelow ds depths (1024 * depth + or_end next) (IsShallower ds depths) l) (sym c.set.ensures) (below-layer ds depths (IsShallower ds depths) c.loop-next.rows depth at next c.in_ok-row.row few long here follows c.in_ok-row.ensures before);
+    }

@@ -1,10 +1,11 @@
-use Rattle.std.proofs.Common.{◌+◌, ◌*◌, ◌≤◌, arith}
+use Rattle.std.proofs.Common.{◌*◌, ◌≤◌, arith}
 use Rattle.vsd_roots.specs.Slots.{IsRoot}
-use Rattle.vsd_roots.proofs.TableLemmas.{all_below, below-end}
+use Rattle.vsd_roots.proofs.LayerLemmas.{all_below}
+use Rattle.vsd_roots.proofs.TableLemmas.{below-end}
 use Rattle.vsd_roots.proofs.rooting.roots.Goals as goal
 
 pub returns : goal.returns
 returns c =
     let h = c.args.h.now in
-    let past : c.deepest.result + 1 ≤ c.loop-depth.depth = omega arith in
-    below-end h.decls.now h.depths.now (IsRoot h.decls.now) c.loop-depth.made (1024 * c.loop-depth.depth) (all_below h.decls.now h.depths.now c.deepest.result c.loop-depth.depth c.requires.settled.few c.requires.settled.hierarchy.deep.count c.deepest.ensures past) c.loop-depth.invariant
+    let past : c.count-depth-end.result ≤ c.loop-depth.depth = omega arith in
+    below-end h.decls.now h.depths.now (IsRoot h.decls.now) c.loop-depth.made (1024 * c.loop-depth.depth) (all_below h.decls.now h.depths.now c.count-depth-end.result c.loop-depth.depth c.requires.settled.few c.requires.settled.hierarchy.deep.count (c.count-depth-end.ensures h.depths.now c.in_ok-layers.ensures) past) c.loop-depth.invariant
