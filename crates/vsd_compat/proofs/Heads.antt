@@ -1,9 +1,8 @@
 -- What a type's declaration says of it: whether it has a base, is a reference type, and how many arguments it has.
-use Rattle.std.proofs.Common.{◌≡◌, ℕ, Bool, true, false, not, List, [], ◌∷◌, length, map, Option, Some, None, IfSome, All, Contains, refl, sym, ap, ◌∙◌, subst, arith}
-use Rattle.std.specs.Cmp.{first_so, second_so}
+use Rattle.std.proofs.Common.{◌≡◌, ℕ, Bool, true, false, not, List, [], length, Option, Some, None, IfSome, All, Contains, refl, sym, ap, ◌∙◌, subst, arith}
 use Rattle.std.specs.Option.{option_and_then}
 use Rattle.std.proofs.lemmas.Bool.{false≢true}
-use Rattle.std.proofs.lemmas.List.Elements.{All-contains, All-nil, All-cons, All-map, All-same}
+use Rattle.std.proofs.lemmas.List.Elements.{All-contains, All-nil, All-map, All-same}
 use Rattle.vsd_terms.specs.Substitution.{subst_of}
 use Rattle.vsd_terms.specs.declared.term.Builtin.{Builtin as Kind}
 use Rattle.vsd_terms.specs.declared.term.Builtin.TheVariants.{Object, String, ValueType}
@@ -12,13 +11,13 @@ use Rattle.vsd_terms.specs.declared.term.Term.TheFolds.{fold-roll-Term}
 use Rattle.vsd_terms.specs.declared.term.Term.TheOpen as layer
 use Rattle.vsd_terms.specs.declared.term.Term.TheViews.{out-roll-Term}
 use Rattle.vsd_terms.specs.declared.term.Term.TheVariants.{Named, Param, Builtin, rolls-Param}
-use Rattle.vsd_ast.specs.Lookup.{Head, named, parameter, built_in, all_true, declared, head_of, head_step, is_lawful, takes, value_base}
+use Rattle.vsd_ast.specs.Lookup.{Head, named, parameter, built_in, declared, head_of, head_step, is_lawful, value_base}
 use Rattle.vsd_ast.specs.declared.declarations.Decl.{Decl}
 use Rattle.vsd_ast.specs.declared.declarations.Located.{Located}
 use Rattle.vsd_types.specs.Types.{args_of, arguments_in, base_of, base_of_head, builtin_base, declaration_of, declaration_of_head, declared_base, declared_interfaces, is_declared_interface, is_declared_reference, is_interface_type, is_reference_head, is_reference_type, named_of, object, written_base}
 use Rattle.vsd_types.proofs.BaseLemmas.{head_of-Builtin}
-use Rattle.vsd_types.proofs.Declared.{args_of-Builtin, args_of-Named, head_of-Named, is_lawful-Named, lawful-params, term_cases}
-use Rattle.vsd_types.proofs.LawfulLemmas.{closed_type-Builtin, lawful-subst}
+use Rattle.vsd_types.proofs.Declared.{args_of-Builtin, args_of-Named, head_of-Named, lawful-params, term_cases}
+use Rattle.vsd_types.proofs.LawfulLemmas.{closed_type-Builtin, lawful-args, lawful-subst}
 use Rattle.vsd_compat.specs.Compatibility.{AreReferences, AreSameInterface}
 use Rattle.vsd_compat.proofs.Orderly.{AreOrderly, IsOrderly}
 
@@ -106,18 +105,13 @@ module _ (ds : List Decl) where
       (λ place x lawful is. let none : declaration_of ds (Param place) ≡ None = ap (declaration_of_head ds) (head_of-Param place) in absurd cc)
       (λ b x lawful is. let none : declaration_of ds (Builtin b) ≡ None = ap (declaration_of_head ds) (head_of-Builtin b) in absurd cc)
 
-  all_lawful : (ts : List Term) → all_true (map (is_lawful ds) ts) ≡ true → All IsLawful ts
-  all_lawful [] h = All-nil IsLawful
-  all_lawful (t ∷ ts) h =
-      All-cons IsLawful t ts (first_so (is_lawful ds t) (all_true (map (is_lawful ds) ts)) h) (all_lawful ts (second_so (is_lawful ds t) (all_true (map (is_lawful ds) ts)) h))
-
   abbrev HasLawfulArguments : Term → Type 0
   HasLawfulArguments t = IsLawful t → All IsLawful (args_of t)
 
   -- they are lawful
   pub lawful-arguments : (t : Term) → HasLawfulArguments t
   lawful-arguments = term_cases HasLawfulArguments
-      (λ name args lawful. All-same IsLawful (args_of (Named name args)) args (args_of-Named name args) (all_lawful args (second_so (takes (declared ds name) (length (map (is_lawful ds) args))) (all_true (map (is_lawful ds) args)) (sym (is_lawful-Named ds name args) ∙ lawful))))
+      (λ name args lawful. All-same IsLawful (args_of (Named name args)) args (args_of-Named name args) (lawful-args ds name args lawful))
       (λ place lawful. All-same IsLawful (args_of (Param place)) [] (args_of-Param place) (All-nil IsLawful))
       (λ b lawful. All-same IsLawful (args_of (Builtin b)) [] (args_of-Builtin b) (All-nil IsLawful))
 

@@ -45,7 +45,7 @@ module _ (ds : List Decl) where
   all_lawful (t ∷ ts) h =
       All-cons IsLawful t ts (first_so (is_lawful ds t) (all_true (map (is_lawful ds) ts)) h) (all_lawful ts (second_so (is_lawful ds t) (all_true (map (is_lawful ds) ts)) h))
 
-  lawful-args : (name : ℕ) (args : List Term) → IsLawful (Named name args) → All IsLawful args
+  pub lawful-args : (name : ℕ) (args : List Term) → IsLawful (Named name args) → All IsLawful args
   lawful-args name args lawful =
       all_lawful args (second_so (takes (declared ds name) (length (map (is_lawful ds) args))) (all_true (map (is_lawful ds) args)) (sym (is_lawful-Named ds name args) ∙ lawful))
 
