@@ -154,7 +154,7 @@ record IsWalk (ds : List Decl) (start : List Term) (n : ℕ) (types : List Term)
   distinct : IsDistinct types
   starts : All (Contains types) start
   closed : All (λ t. All (Contains types) (children ds t)) (take n types)
-  reached : (p : ℕ) (t : Term) → slice_get types p ≡ Some t → Contains start t ⊎ IsReached ds start types p t
+  reached : (p : ℕ) (t : Term) → slice_get types p ≡ Some t → Contains start t ⊎ IsReached ds types p t
   order : types ≡ insert_all term_eq [] (start ++ flat_map (children ds) (take n types))
 
 module _ (ds : List Decl) (names : List (List ℕ)) (start : List Term) where

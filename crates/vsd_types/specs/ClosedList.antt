@@ -13,7 +13,7 @@ abbrev pub IsClosedUnder : List Decl → List Term → Type 0
 IsClosedUnder ds types = All (λ t. All (Contains types) (children ds t)) types
 
 -- the place of a type that is no start leads back to one that comes earlier
-pub record IsReached (ds : List Decl) (start types : List Term) (place : ℕ) (t : Term) : Type 0 where
+pub record IsReached (ds : List Decl) (types : List Term) (place : ℕ) (t : Term) : Type 0 where
   pub from : ℕ
   pub by : Term
   pub earlier : from < place
@@ -26,5 +26,5 @@ pub record IsClosedList (ds : List Decl) (start types : List Term) : Type 0 wher
   pub distinct : IsDistinct types
   pub starts : All (Contains types) start
   pub closed : IsClosedUnder ds types
-  pub reached : (i : ℕ) (t : Term) → slice_get types i ≡ Some t → Contains start t ⊎ IsReached ds start types i t
+  pub reached : (i : ℕ) (t : Term) → slice_get types i ≡ Some t → Contains start t ⊎ IsReached ds types i t
   pub order : types ≡ insert_all term_eq [] (start ++ flat_map (children ds) types)
