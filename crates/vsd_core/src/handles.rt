@@ -24,7 +24,8 @@ use vsd_trails::Unloaded;
 use vsd_words::Handle;
 
 impl<R: Resolver> Runtime<R> {
-    /// Loads a type: a new handle that names it, until this caller unloads it.
+    /// Loads the type of number `t`, below the resolver's count of types: a new handle that names it, until
+    /// this caller unloads it.
     ///
     /// `HandlesFull` comes exactly where each of the caller's 64 rows is live or at its last generation, and
     /// changes nothing.

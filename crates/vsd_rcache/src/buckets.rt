@@ -14,7 +14,8 @@ use vsd_rows::Hand;
 use vsd_table::Shared;
 use vsd_words::{Handle, bucket_of};
 
-/// The row that a bucket names, by one load. The caller protects it from here on until it unpins.
+/// The row that a bucket names, below the sizes' `rows`, by one load. The caller protects it from here on
+/// until it unpins.
 /// `None` comes exactly where the bucket was loaded as 0.
 pub fn look(table: &Shared, hand: &mut Hand, bucket: u32) -> Option<u16>
     requires seat { Belongs table.now hand.old.seated }
