@@ -15,7 +15,8 @@ pub struct Tokens {
     pub sites: Vec<u16>,
 }
 
-/// The pair of each site, where `types` has the number of each root's type. The error is want of memory.
+/// The pair of each site, in order of the sites: the number of its interface's type and its slot. `types` has the number of
+/// each root's type. The error is want of memory.
 pub fn pairs_of_sites(
     alloc: Global,
     sites: &[Site],
@@ -31,7 +32,8 @@ pub fn pairs_of_sites(
     Ok(pairs)
 }
 
-/// Numbers the pairs of the sites, in order of first appearance. The error is want of memory.
+/// Numbers the pairs of the sites, at most 256, each of a type's number and a slot, from 0 in order of first appearance. The
+/// error is want of memory.
 pub fn number_tokens(alloc: Global, pairs: &[(u16, u16)]) -> Result<Tokens, AllocError>
     requires { length pairs.now ≤ 256 }
     ensures tokens { IfOk result (λ tokens. tokens.list.items ≡ tokens_of pairs.now) }

@@ -28,8 +28,13 @@ use vsd_table::{Doing, Resolver, Shared};
 use vsd_trails::{Answer, Found, Path, Seen, Unloaded};
 use vsd_words::{CellWord, Handle};
 
-/// Answers a call of the site on the handle. Where it is answered, the caller has the evidence for its
-/// target, which is the world's answer for every type that the caller knows the handle to name.
+/// Answers a call of the site, whose token is `token`, on the handle. Where it is answered, the caller has
+/// the evidence for its target, which is the world's answer for every type that the caller knows the handle
+/// to name: 0 for the missing slot, else one more than a method's number.
+///
+/// `Unloaded` comes only where neither the site's cell nor the pair's bucket held it, and the handle's word
+/// has another generation or is not live. It carries that handle, which the caller does not own and which is
+/// no host's, and its word. Either way the caller is unpinned again and its limbo swept once.
 #[inline]
 pub fn call<R: Resolver>(
     table: &Shared,

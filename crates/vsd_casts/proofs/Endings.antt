@@ -48,63 +48,63 @@ module _ (k : Key) (source target : Handle) (u : Unloaded) where
   abbrev unloaded : Result CastAnswer Unloaded
   unloaded = Err u
 
-  target_ends : (type : Result ℕ Unloaded) (f : Fields) (m : Miss) (number : ℕ) (front : List TrailStep) (first last : TrailStep) (xs : List TrailStep) → first.step.act ≡ LoadHandle source.row
+  target_ends : (type : Result ℕ Unloaded) (f : Fields) (m : Miss) (number : ℕ) (prefix : List TrailStep) (first last : TrailStep) (xs : List TrailStep) → first.step.act ≡ LoadHandle source.row
       → is_live_at source.generation (unpacked_handle_word first.step.found) ≡ true → last.step.act ≡ LoadHandle target.row → type_by target (unpacked_handle_word last.step.found) ≡ type
-      → Runs k f (typing_target k source target m number type) xs unloaded → Ends (front ++ first ∷ last ∷ xs)
+      → Runs k f (typing_target k source target m number type) xs unloaded → Ends (prefix ++ first ∷ last ∷ xs)
   unfolding typing_target asking
-  target_ends (Err v) f m number front first last xs act live act' type runs =
+  target_ends (Err v) f m number prefix first last xs act live act' type runs =
       let e = nothing_run k f xs (Err v) unloaded runs in
       let ends = e.1 in
       let same : v ≡ u = cc in
       inr (record {
-        front = front;
+        prefix = prefix;
         first = first;
         last = last;
-        whole = ap (λ (l : List TrailStep). front ++ first ∷ last ∷ l) e.0;
+        whole = ap (λ (l : List TrailStep). prefix ++ first ∷ last ∷ l) e.0;
         act = act;
         live = live;
         shows = gone_at target last u act' (type ∙ ap (λ (y : Unloaded). Err y) same);
       })
-  target_ends (Ok other) f m number front first last xs act live act' type runs =
+  target_ends (Ok other) f m number prefix first last xs act live act' type runs =
       let a = splits k f (putting_cast k m source target _) _ xs unloaded runs in
-      let e = nothing_run k (after_steps k f a.front) a.rest _ unloaded a.second in
+      let e = nothing_run k (after_steps k f a.prefix) a.rest _ unloaded a.second in
       let clash = e.1 in absurd (cc)
 
-  source_ends : (type : Result ℕ Unloaded) (f : Fields) (m : Miss) (front : List TrailStep) (first : TrailStep) (xs : List TrailStep) → first.step.act ≡ LoadHandle source.row
-      → type_by source (unpacked_handle_word first.step.found) ≡ type → Runs k f (typing_source k source target m type) xs unloaded → Ends (front ++ first ∷ xs)
+  source_ends : (type : Result ℕ Unloaded) (f : Fields) (m : Miss) (prefix : List TrailStep) (first : TrailStep) (xs : List TrailStep) → first.step.act ≡ LoadHandle source.row
+      → type_by source (unpacked_handle_word first.step.found) ≡ type → Runs k f (typing_source k source target m type) xs unloaded → Ends (prefix ++ first ∷ xs)
   unfolding typing_source
-  source_ends (Err v) f m front first xs act type runs =
+  source_ends (Err v) f m prefix first xs act type runs =
       let e = nothing_run k f xs (Err v) unloaded runs in
       let ends = e.1 in
       let same : v ≡ u = cc in
       inl (record {
-        front = front;
+        prefix = prefix;
         last = first;
-        whole = ap (λ (l : List TrailStep). front ++ first ∷ l) e.0;
+        whole = ap (λ (l : List TrailStep). prefix ++ first ∷ l) e.0;
         shows = gone_at source first u act (type ∙ ap (λ (y : Unloaded). Err y) same);
       })
-  source_ends (Ok number) f m front first xs act type runs =
+  source_ends (Ok number) f m prefix first xs act type runs =
       let w = unpacked_handle_word first.step.found in
       let a = splits k f (typing target) (typing_target k source target m number) xs unloaded runs in
-      let load = one_load k f (LoadHandle target.row) None (λ (word : ℕ). type_by target (unpacked_handle_word word)) a.front a.answer tt a.first in
+      let load = one_load k f (LoadHandle target.row) None (λ (word : ℕ). type_by target (unpacked_handle_word word)) a.prefix a.answer tt a.first in
       let live = live_of (is_live_at source.generation w) w.number number (record { handle = source; found = w }) type in
       let all : xs ≡ load.step ∷ a.rest = a.whole ∙ ap (λ (l : List TrailStep). l ++ a.rest) load.is in
-      subst (λ (l : List TrailStep). Ends (front ++ first ∷ l)) (sym all) (target_ends a.answer (after_steps k f a.front) m number front first load.step a.rest act live load.act_is load.answer a.second)
+      subst (λ (l : List TrailStep). Ends (prefix ++ first ∷ l)) (sym all) (target_ends a.answer (after_steps k f a.prefix) m number prefix first load.step a.rest act live load.act_is load.answer a.second)
 
-  found_ends : (found : Find) (f : Fields) (front xs : List TrailStep) → Runs k f (casting_by k source target found) xs unloaded → Ends (front ++ xs)
+  found_ends : (found : Find) (f : Fields) (prefix xs : List TrailStep) → Runs k f (casting_by k source target found) xs unloaded → Ends (prefix ++ xs)
   unfolding casting_by
-  found_ends (find.Hit given) f front xs runs = let e = nothing_run k f xs _ unloaded runs in let clash = e.1 in absurd (cc)
-  found_ends (find.Miss m) f front xs runs =
+  found_ends (find.Hit given) f prefix xs runs = let e = nothing_run k f xs _ unloaded runs in let clash = e.1 in absurd (cc)
+  found_ends (find.Miss m) f prefix xs runs =
       let a = splits k f (typing source) (typing_source k source target m) xs unloaded runs in
-      let load = one_load k f (LoadHandle source.row) None (λ (word : ℕ). type_by source (unpacked_handle_word word)) a.front a.answer tt a.first in
+      let load = one_load k f (LoadHandle source.row) None (λ (word : ℕ). type_by source (unpacked_handle_word word)) a.prefix a.answer tt a.first in
       let all : xs ≡ load.step ∷ a.rest = a.whole ∙ ap (λ (l : List TrailStep). l ++ a.rest) load.is in
-      subst (λ (l : List TrailStep). Ends (front ++ l)) (sym all) (source_ends a.answer (after_steps k f a.front) m front load.step a.rest load.act_is load.answer a.second)
+      subst (λ (l : List TrailStep). Ends (prefix ++ l)) (sym all) (source_ends a.answer (after_steps k f a.prefix) m prefix load.step a.rest load.act_is load.answer a.second)
 
   cast_ends : (f : Fields) (trail : List TrailStep) → Runs k f (casting k source target) trail unloaded → Ends trail
   unfolding casting
   cast_ends f trail runs =
       let a = splits k f (finding_cast source target) (casting_by k source target) trail unloaded runs in
-      subst Ends (sym a.whole) (found_ends a.answer (after_steps k f a.front) a.front a.rest a.second)
+      subst Ends (sym a.whole) (found_ends a.answer (after_steps k f a.prefix) a.prefix a.rest a.second)
 
 answer_tells : (k : Key) (source target : Handle) (f : Fields) (trail : List TrailStep) (a : Result CastAnswer Unloaded) → Runs k f (casting k source target) trail a → AnswerTells source target trail a
 answer_tells k source target f trail (Ok a) runs = paths.cast_tells k source target f trail (Ok a) runs

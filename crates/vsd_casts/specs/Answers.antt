@@ -17,17 +17,17 @@ pub record ShowsGone (h : Handle) (load : TrailStep) (u : Unloaded) : Type 0 whe
 
 -- the last step shows that the source is unloaded, so the target's word was not loaded
 pub record EndsBySource (source : Handle) (trail : List TrailStep) (u : Unloaded) : Type 0 where
-  pub front : List TrailStep
+  pub prefix : List TrailStep
   pub last : TrailStep
-  pub whole : trail ≡ front ++ last ∷ []
+  pub whole : trail ≡ prefix ++ last ∷ []
   pub shows : ShowsGone source last u
 
 -- the step before the last shows that the source is loaded, and the last one that the target isn't
 pub record EndsByTarget (source target : Handle) (trail : List TrailStep) (u : Unloaded) : Type 0 where
-  pub front : List TrailStep
+  pub prefix : List TrailStep
   pub first : TrailStep
   pub last : TrailStep
-  pub whole : trail ≡ front ++ first ∷ last ∷ []
+  pub whole : trail ≡ prefix ++ first ∷ last ∷ []
   pub act : first.step.act ≡ LoadHandle source.row
   pub live : is_live_at source.generation (unpacked_handle_word first.step.found) ≡ true
   pub shows : ShowsGone target last u

@@ -37,12 +37,12 @@ use Rattle.vsd_ccache.proofs.Writing.{not_busy}
 
 -- ---- where loads stand
 
-later : (front rest : List TrailStep) (loads : _) → InTurn rest loads → InTurn (front ++ rest) loads
-later front rest loads t = record {
-  before = front ++ t.before;
+later : (prefix rest : List TrailStep) (loads : _) → InTurn rest loads → InTurn (prefix ++ rest) loads
+later prefix rest loads t = record {
+  before = prefix ++ t.before;
   there = t.there;
   after = t.after;
-  whole = ap (λ (l : List TrailStep). front ++ l) t.whole ∙ sym (append_assoc front t.before (t.there ++ t.after));
+  whole = ap (λ (l : List TrailStep). prefix ++ l) t.whole ∙ sym (append_assoc prefix t.before (t.there ++ t.after));
   same = t.same;
 }
 
@@ -69,12 +69,12 @@ record Versions (region home i n : ℕ) (before : List ℕ) (m : Miss) (xs : Lis
   each : (j : ℕ) → j < n → InTurn xs ((LoadVersion region (probe_row region home (i + j)), slice_index more j) ∷ [])
 
 module _ (k : Key) (source target : Handle) (region home : ℕ) where
-  first_version : (f : Fields) (i : ℕ) (front rest : List TrailStep) (v : ℕ) → Probe source target region (probe_row region home i) front (probe_miss v)
-      → InTurn (front ++ rest) ((LoadVersion region (probe_row region home i), v) ∷ [])
-  first_version f i front rest v p =
+  first_version : (f : Fields) (i : ℕ) (prefix rest : List TrailStep) (v : ℕ) → Probe source target region (probe_row region home i) prefix (probe_miss v)
+      → InTurn (prefix ++ rest) ((LoadVersion region (probe_row region home i), v) ∷ [])
+  first_version f i prefix rest v p =
       let is : p.a.step.found ≡ v = missed_version (is_hit source target p.a.step.found (unpacked_handle p.b.step.found) (unpacked_cast p.c.step.found) p.d.step.found) (unpacked_cast p.c.step.found).yes p.a.step.found v p.is in
       let here = first_load p.a (p.b ∷ p.c ∷ p.d ∷ rest) (LoadVersion region (probe_row region home i)) p.a_is in
-      subst (λ (n : ℕ). InTurn (front ++ rest) ((LoadVersion region (probe_row region home i), n) ∷ [])) is
+      subst (λ (n : ℕ). InTurn (prefix ++ rest) ((LoadVersion region (probe_row region home i), n) ∷ [])) is
       (subst (λ (l : List TrailStep). InTurn (l ++ rest) ((LoadVersion region (probe_row region home i), p.a.step.found) ∷ [])) (sym p.whole) here)
 
   versions_of : (n i : ℕ) (before : List ℕ) (f : Fields) (xs : List TrailStep) (m : Miss) → Runs k f (probing source target region home n i before) xs (find.Miss m) → Versions region home i n before m xs
@@ -94,16 +94,16 @@ module _ (k : Key) (source target : Handle) (region home : ℕ) where
   versions_of (suc n) i before f xs m runs =
       let row = probe_row region home i in
       let a = splits k f (probing_row source target region row) _ xs (find.Miss m) runs in
-      let g = after_steps k f a.front in
+      let g = after_steps k f a.prefix in
       subst (Versions region home i (suc n) before m) (sym a.whole)
-      (by_probe g a.answer a.front a.rest (probe_of k source target f region row a.front a.answer a.first) a.second (λ v more. versions_of n (i + 1) (before ++ v ∷ []) g a.rest m more))
+      (by_probe g a.answer a.prefix a.rest (probe_of k source target f region row a.prefix a.answer a.first) a.second (λ v more. versions_of n (i + 1) (before ++ v ∷ []) g a.rest m more))
     where
-      by_probe : (g : Fields) (found : Probed) (front rest : List TrailStep) → Probe source target region (probe_row region home i) front found
+      by_probe : (g : Fields) (found : Probed) (prefix rest : List TrailStep) → Probe source target region (probe_row region home i) prefix found
           → Runs k g (unless_hit (λ version. probing source target region home n (i + 1) (before ++ version ∷ [])) found) rest (find.Miss m)
           → ((v : ℕ) → Runs k g (probing source target region home n (i + 1) (before ++ v ∷ [])) rest (find.Miss m) → Versions region home (i + 1) n (before ++ v ∷ []) m rest)
-          → Versions region home i (suc n) before m (front ++ rest)
-      by_probe g (probe_hit answer) front rest p r next = let e = nothing_run k g rest (find.Hit answer) (find.Miss m) r in let clash = e.1 in absurd (cc)
-      by_probe g (probe_miss v) front rest p r next =
+          → Versions region home i (suc n) before m (prefix ++ rest)
+      by_probe g (probe_hit answer) prefix rest p r next = let e = nothing_run k g rest (find.Hit answer) (find.Miss m) r in let clash = e.1 in absurd (cc)
+      by_probe g (probe_miss v) prefix rest p r next =
           let t = next v r in
           let count = t.count in
           record {
@@ -115,11 +115,11 @@ module _ (k : Key) (source target : Handle) (region home : ℕ) where
             each = at_probe t;
           }
         where
-          at_probe : (t : Versions region home (i + 1) n (before ++ v ∷ []) m rest) → (j : ℕ) → j < suc n → InTurn (front ++ rest) ((LoadVersion region (probe_row region home (i + j)), slice_index (v ∷ t.more) j) ∷ [])
-          at_probe t zero small = subst (λ (q : ℕ). InTurn (front ++ rest) ((LoadVersion region (probe_row region home q), v) ∷ [])) (sym (add-zero i)) (first_version g i front rest v p)
+          at_probe : (t : Versions region home (i + 1) n (before ++ v ∷ []) m rest) → (j : ℕ) → j < suc n → InTurn (prefix ++ rest) ((LoadVersion region (probe_row region home (i + j)), slice_index (v ∷ t.more) j) ∷ [])
+          at_probe t zero small = subst (λ (q : ℕ). InTurn (prefix ++ rest) ((LoadVersion region (probe_row region home q), v) ∷ [])) (sym (add-zero i)) (first_version g i prefix rest v p)
           at_probe t (suc j) small =
               let place : i + 1 + j ≡ i + suc j = omega arith in
-              subst (λ (q : ℕ). InTurn (front ++ rest) ((LoadVersion region (probe_row region home q), slice_index t.more j) ∷ [])) place (later front rest _ (t.each j (omega arith)))
+              subst (λ (q : ℕ). InTurn (prefix ++ rest) ((LoadVersion region (probe_row region home q), slice_index t.more j) ∷ [])) place (later prefix rest _ (t.each j (omega arith)))
 
 -- ---- a look
 
@@ -135,8 +135,8 @@ module _ (k : Key) (source target : Handle) where
   unfolding finding_cast
   miss_shown f xs m runs =
       let a = splits k f (ask (record { act = LoadRegion; begins = Some (Cast source target) }) (λ word. done word)) (λ region. probing source target region (home_of source target (region_size region)) 8 0 []) xs (find.Miss m) runs in
-      let load = one_load k f LoadRegion (Some (Cast source target)) (λ word. word) a.front a.answer tt a.first in
-      let g = after_steps k f a.front in
+      let load = one_load k f LoadRegion (Some (Cast source target)) (λ word. word) a.prefix a.answer tt a.first in
+      let g = after_steps k f a.prefix in
       let region = a.answer in
       let home = home_of source target (region_size region) in
       let v = versions_of k source target region home 8 0 [] g a.rest m a.second in
@@ -220,15 +220,15 @@ module _ (k : Key) (m : Miss) (source target : Handle) (answer : Bool) where
   unfolding publishing
   stores_run region row word version f xs a runs =
       let one = splits k f (making (SetSource region row source)) _ xs a runs in
-      let one' = one_load k f (SetSource region row source) None (λ (found : ℕ). tt) one.front one.answer tt one.first in
-      let f1 = after_steps k f one.front in
+      let one' = one_load k f (SetSource region row source) None (λ (found : ℕ). tt) one.prefix one.answer tt one.first in
+      let f1 = after_steps k f one.prefix in
       let two = splits k f1 (making (SetCast region row word)) _ one.rest a one.second in
-      let two' = one_load k f1 (SetCast region row word) None (λ (found : ℕ). tt) two.front two.answer tt two.first in
-      let f2 = after_steps k f1 two.front in
+      let two' = one_load k f1 (SetCast region row word) None (λ (found : ℕ). tt) two.prefix two.answer tt two.first in
+      let f2 = after_steps k f1 two.prefix in
       let three = splits k f2 (making (Publish region row (version + 2))) _ two.rest a two.second in
-      let three' = one_load k f2 (Publish region row (version + 2)) None (λ (found : ℕ). tt) three.front three.answer tt three.first in
-      let e = nothing_run k (after_steps k f2 three.front) three.rest put.Written a three.second in
-      let tail : two.rest ≡ three'.step ∷ [] = three.whole ∙ (ap (λ (l : List TrailStep). three.front ++ l) e.0 ∙ (append-nil three.front ∙ three'.is)) in
+      let three' = one_load k f2 (Publish region row (version + 2)) None (λ (found : ℕ). tt) three.prefix three.answer tt three.first in
+      let e = nothing_run k (after_steps k f2 three.prefix) three.rest put.Written a three.second in
+      let tail : two.rest ≡ three'.step ∷ [] = three.whole ∙ (ap (λ (l : List TrailStep). three.prefix ++ l) e.0 ∙ (append-nil three.prefix ∙ three'.is)) in
       let more : one.rest ≡ two'.step ∷ three'.step ∷ [] = two.whole ∙ (ap (λ (l : List TrailStep). l ++ two.rest) two'.is ∙ ap (λ (l : List TrailStep). two'.step ∷ l) tail) in
       let all : xs ≡ one'.step ∷ two'.step ∷ three'.step ∷ [] = one.whole ∙ (ap (λ (l : List TrailStep). l ++ one.rest) one'.is ∙ ap (λ (l : List TrailStep). one'.step ∷ l) more) in
       record { acts = ap (map act_of) all ∙ (λ i. one'.act_is i ∷ two'.act_is i ∷ three'.act_is i ∷ []); is = e.1 }
@@ -248,8 +248,8 @@ module _ (k : Key) (m : Miss) (source target : Handle) (answer : Bool) where
 
     exchanged : (f : Fields) (xs : List TrailStep) (a : Put) → is_busy version ≡ false → TwoRuns ℕ Put k f (making_odd m.region row version) by_found xs a → PutTells k m source target answer xs a
     exchanged f xs a free t =
-        let odd = odd_run m.region row version f t.front t.answer t.first in
-        let g = after_steps k f t.front in
+        let odd = odd_run m.region row version f t.prefix t.answer t.first in
+        let g = after_steps k f t.prefix in
         let whole : xs ≡ odd.step ∷ t.rest = t.whole ∙ ap (λ (l : List TrailStep). l ++ t.rest) odd.is in
         ⊎_elim
         (λ won. let s = stores_run m.region row word version g t.rest a won.1 in
@@ -282,8 +282,8 @@ module _ (k : Key) (m : Miss) (source target : Handle) (answer : Bool) where
   unfolding growing
   grow_shown wants f xs a runs =
       let t = splits k f (loading (Grow m.region)) (λ found. when nat_eq found m.region then done put.Grew else done (put.Nothing (lost.Grow found))) xs a runs in
-      let load = one_load k f (Grow m.region) None (λ (word : ℕ). word) t.front t.answer tt t.first in
-      let g = after_steps k f t.front in
+      let load = one_load k f (Grow m.region) None (λ (word : ℕ). word) t.prefix t.answer tt t.first in
+      let g = after_steps k f t.prefix in
       let whole : xs ≡ load.step ∷ t.rest = t.whole ∙ ap (λ (l : List TrailStep). l ++ t.rest) load.is in
       ⊎_elim
       (λ won. let e = nothing_run k g t.rest put.Grew a won.1 in

@@ -58,7 +58,7 @@ pub fn find(table: &Shared, hand: &mut Hand, source: Handle, target: Handle) -> 
 }
 
 /// Begins a look: loads the region in use, and probes the row at the pair's home. Most casts end here, so it is a function
-/// of its own, which makes no list of versions.
+/// of its own, which makes no list of versions. `Hit` and `Miss` come as in `find`.
 #[inline]
 pub fn probe_first(table: &Shared, hand: &mut Hand, source: Handle, target: Handle) -> First
     requires seat { Belongs table.now hand.old.seated }
@@ -83,7 +83,8 @@ pub fn probe_first(table: &Shared, hand: &mut Hand, source: Handle, target: Hand
     }
 }
 
-/// Ends a look whose first probe missed: probes the other seven rows, until one is a hit.
+/// Ends a look whose first probe missed: probes the other seven rows, until one is a hit. `Hit` and `Miss` come as in
+/// `find`, and `Miss` has the first probe's version too.
 pub fn probe_others(
     table: &Shared,
     hand: &mut Hand,

@@ -14,8 +14,8 @@ use vsd_rows::Hand;
 use vsd_table::Shared;
 use vsd_words::CellWord;
 
-/// The site's cell, by one load. A row that it names has the site's token, and the caller protects it
-/// from here on until it unpins.
+/// The site's cell, by one load. A row that it names is below the sizes' `rows` and has the site's token,
+/// and the caller protects it from here on until it unpins.
 pub fn read(table: &Shared, hand: &mut Hand, site: u16) -> CellWord
     requires seat { Belongs table.now hand.old.seated }
     requires site { site < (key_of table.now).sizes.sites }

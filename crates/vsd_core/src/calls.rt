@@ -20,8 +20,8 @@ use vsd_trails::{Answer, Unloaded};
 use vsd_words::Handle;
 
 impl<R: Resolver> Runtime<R> {
-    /// The method that a call through the site reaches on the handle's type: its number plus 1, or 0 for
-    /// the missing slot, with where it was found.
+    /// The method that a call through the site, below the sizes' `sites`, reaches on the handle's type: its
+    /// number plus 1, or 0 for the missing slot, with where it was found. The runtime has the handle (`has`).
     ///
     /// `Unloaded` comes only where the handle is neither a host's nor one that the caller owns, neither the
     /// site's cell nor the pair's bucket held it, and its handle word, carried in the error, has another

@@ -23,7 +23,8 @@ use vsd_words::Handle;
 
 impl<R: Resolver> Runtime<R> {
     /// Whether the source's type is compatible with the target's (ECMA-335, I.8.7), and whether the resolver was
-    /// asked: it is asked exactly where no row that was looked at held the pair.
+    /// asked: it is asked exactly where no row that was looked at held the pair. The runtime has both handles
+    /// (`has`).
     ///
     /// `Unloaded` comes only where no row held the pair, and a handle that is neither a host's nor one that the
     /// caller owns has a word, carried in the error, of another generation or that isn't live. The source's word

@@ -24,7 +24,8 @@ use vsd_trails::Unloaded;
 use vsd_words::Handle;
 
 impl<R: Resolver> Runtime<R> {
-    /// Loads a type: a new handle that names it, until this caller unloads it.
+    /// Loads the type of number `t`, below the resolver's count of types: a new handle that names it, until
+    /// this caller unloads it.
     ///
     /// `HandlesFull` comes exactly where each of the caller's 64 rows is live or at its last generation, and
     /// changes nothing.
@@ -64,7 +65,8 @@ impl<R: Resolver> Runtime<R> {
         vsd_unloads::unload(&self.table, &mut who.hand, &mut who.owned, h);
     }
 
-    /// The number of the type that the handle names now, by one load of its handle word.
+    /// The number of the type that the handle, which the runtime has (`has`), names now, by one load of its
+    /// handle word. It is below the resolver's count of types.
     ///
     /// `Unloaded` comes exactly where that word, carried in the error, has another generation or isn't live:
     /// never for a host's handle or one that the caller owns, and always for one that it has unloaded.

@@ -33,7 +33,8 @@ impl<R: Resolver> Runtime<R> {
         &self.resolver
     }
 
-    /// The handle of a host: its row is the host's number, at generation 1. It is never unloaded.
+    /// The handle of host `i`, below the sizes' `hosts`: its row is the host's number, at generation 1. It is
+    /// never unloaded.
     pub fn host(&self, i: u16) -> Handle
         requires { i < (fixed_in self.now).sizes.hosts }
         ensures handle { result ≡ handle i 1 }

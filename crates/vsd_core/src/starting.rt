@@ -15,9 +15,10 @@ use vsd_table::{Seated, Shared, layout};
 impl<R: Resolver + Drop> Runtime<R> {
     /// Starts a runtime of these sizes, with its callers in order of their numbers from 0.
     ///
-    /// `sites` has the token of each call site, and `hosts` the number of each host's type. At the start
-    /// all cells are at Lookup, all rows free, all buckets empty, all counters, versions and the epoch 0, all
-    /// logs empty, and the hosts' handles live at generation 1.
+    /// `sites` has the token of each call site, below the resolver's count of tokens, and `hosts` the number
+    /// of each host's type, below its count of types. At the start all cells are at Lookup, all rows free,
+    /// all buckets empty, all counters, versions and the epoch 0, all logs empty, and the hosts' handles live
+    /// at generation 1. The error is want of memory.
     pub fn start(
         alloc: Global,
         sizes: Sizes,

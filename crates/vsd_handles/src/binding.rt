@@ -20,8 +20,9 @@ use vsd_words::{Handle, HandleWord};
 #[error("none of the caller's 64 handle rows can be bound")]
 pub struct HandlesFull;
 
-/// Binds the lowest of the caller's rows that is neither live nor worn out to type `t`, and raises
-/// its generation by one. A row is worn out at the last generation, 4,294,967,295.
+/// Binds the lowest of the caller's rows that is neither live nor worn out to type `t`, below the
+/// world's count of types, and raises its generation by one. A row is worn out at the last generation,
+/// 4,294,967,295.
 ///
 /// `HandlesFull` comes exactly where there is no such row, and changes nothing.
 pub fn bind(

@@ -16,7 +16,8 @@ use vsd_trails::Unloaded;
 use vsd_words::Handle;
 
 /// The number of the type that the handle names now, by one load of its row's handle word.
-/// `Unloaded` comes exactly where that word has another generation or is not live.
+/// `Unloaded` comes exactly where that word, carried in the error with the handle, has another
+/// generation or is not live.
 pub fn type_of(table: &Shared, hand: &mut Hand, h: Handle) -> Result<u16, Unloaded>
     requires seat { Belongs table.now hand.old.seated }
     requires row { h.row < handle_rows (key_of table.now).sizes }

@@ -22,6 +22,9 @@ const LINE: usize = 4_096;
 /// and cast, `<lane> <site> <method>`, `<lane> <site> missing <slot>`, or `<lane> <source> as <target> yes` or `no`.
 /// A call's answer is 0 where the slot is missing, else one more than the method's number; a cast's is 1 for yes and
 /// 0 for no. `site_tokens` has the token of each site, by which `slot_texts` has the slots' texts.
+///
+/// After an error the sink took a first part of the lines: at `Memory`, want of memory, perhaps nothing or all, at
+/// `Failed`, which comes exactly where the sink counted a fault, not all.
 pub fn write_lines<K: Sink>(
     alloc: Global,
     script: &Script,

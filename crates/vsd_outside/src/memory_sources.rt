@@ -143,7 +143,7 @@ impl Source for SureSource {
     }
 }
 
-/// Copies what fits of `from` to the front of `into`, and gives its length.
+/// Copies what fits of `from` to the start of `into`, and gives its length.
 fn copy_front(from: &[u8], into: &mut [u8]) -> usize
     ensures size { result ≡ min (length from.now) (length into.old) }
     ensures front { take result into.new ≡ take result from.now }

@@ -40,7 +40,8 @@ impl From<Failed> for ReadError {
 }
 
 /// Reads the source to its end, or to `limit` bytes: never more. After an error the source has given as
-/// many bytes as were read before it, and they are lost. `Failed` comes at the first read that failed.
+/// many bytes as were read before it, and they are lost. `Failed` comes at the first read that failed, which
+/// the source counted. `Memory` is want of memory, and then no read failed.
 pub fn read_up_to<S: Source>(
     alloc: Global,
     source: &mut S,

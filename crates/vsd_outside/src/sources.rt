@@ -20,7 +20,7 @@ pub trait Source {
     // No read fails from here on. A source that can't promise it claims no such thing.
     ghost never_fails: { Self → Type 0 };
 
-    /// Takes the next bytes of the source into the front of `into`, and gives their number: at most as
+    /// Takes the next bytes of the source into a prefix of `into`, and gives their number: at most as
     /// many as `into` has room for. 0 for a room that isn't empty is the end. `Failed` took nothing, and
     /// is the only answer at which a fault is counted. What stands in `into` after the bytes that were
     /// given, or after `Failed`, isn't told. A call doesn't change whether the source tells its bytes.

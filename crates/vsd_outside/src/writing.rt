@@ -8,7 +8,7 @@ use crate::sinks::Sink;
 use crate::sources::Failed;
 
 /// Writes the bytes in order, in pieces as large as the sink takes. At `Failed`, which comes at the first
-/// write that failed, the sink took a prefix of them, and not all.
+/// write that failed, the sink took a prefix of them, and not all, and counted a fault.
 pub fn write_whole<K: Sink>(sink: &mut K, bytes: &[u8]) -> Result<(), Failed>
     ensures ok { OnOk result (K.taken sink.new ≡ append_known (K.taken sink.old) bytes.now) }
     ensures part { OnErr result (TakesPart (K.taken sink.old) (K.taken sink.new) bytes.now) }

@@ -14,7 +14,8 @@ use vsd_rows::Hand;
 use vsd_table::Shared;
 use vsd_words::{Handle, bucket_of};
 
-/// The row that a bucket names, by one load. The caller protects it from here on until it unpins.
+/// The row that a bucket names, below the sizes' `rows`, by one load. The caller protects it from here on
+/// until it unpins.
 /// `None` comes exactly where the bucket was loaded as 0.
 pub fn look(table: &Shared, hand: &mut Hand, bucket: u32) -> Option<u16>
     requires seat { Belongs table.now hand.old.seated }
@@ -29,8 +30,8 @@ pub fn look(table: &Shared, hand: &mut Hand, bucket: u32) -> Option<u16>
     hand.seated.bucket(table, bucket)
 }
 
-/// Swaps a row that is filled with this pair into the pair's bucket. Answers the row that came out,
-/// which the caller keeps. `None` comes exactly where the swap found an empty bucket.
+/// Swaps a row that is filled with this pair into the pair's bucket. Answers the row that came out, below
+/// the sizes' `rows`, which the caller keeps. `None` comes exactly where the swap found an empty bucket.
 pub fn put(table: &Shared, hand: &mut Hand, row: u16, token: u16, h: Handle) -> Option<u16>
     requires seat { Belongs table.now hand.old.seated }
     requires row { row < (key_of table.now).sizes.rows }
@@ -56,8 +57,8 @@ pub(crate) fn bucket_for(table: &Shared, token: u16, h: Handle) -> u32
     bucket_of(token, h, u32::from(table.sizes().buckets))
 }
 
-/// Swaps a bucket empty. Answers the row that came out, which the caller keeps. `None` comes exactly
-/// where the swap found the bucket empty.
+/// Swaps a bucket empty. Answers the row that came out, below the sizes' `rows`, which the caller keeps.
+/// `None` comes exactly where the swap found the bucket empty.
 pub fn purge(table: &Shared, hand: &mut Hand, bucket: u32) -> Option<u16>
     requires seat { Belongs table.now hand.old.seated }
     requires bucket { bucket < (key_of table.now).sizes.buckets }

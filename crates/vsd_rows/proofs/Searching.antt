@@ -23,8 +23,8 @@ load_is : (x : TrailStep) (act : Act) (found : ℕ) → x.step.act ≡ act → x
 load_is x act found acts words = λ i. (acts i, words i)
 
 -- what stands in a part stands in the whole
-in_front : (front rest xs : List TrailStep) (loads : List (Act × ℕ)) → xs ≡ front ++ rest → InTurn front loads → InTurn xs loads
-in_front front rest xs loads whole t = record {
+in_front : (prefix rest xs : List TrailStep) (loads : List (Act × ℕ)) → xs ≡ prefix ++ rest → InTurn prefix loads → InTurn xs loads
+in_front prefix rest xs loads whole t = record {
   before = t.before;
   there = t.there;
   after = t.after ++ rest;
@@ -32,12 +32,12 @@ in_front front rest xs loads whole t = record {
   same = t.same;
 }
 
-in_rest : (front rest xs : List TrailStep) (loads : List (Act × ℕ)) → xs ≡ front ++ rest → InTurn rest loads → InTurn xs loads
-in_rest front rest xs loads whole t = record {
-  before = front ++ t.before;
+in_rest : (prefix rest xs : List TrailStep) (loads : List (Act × ℕ)) → xs ≡ prefix ++ rest → InTurn rest loads → InTurn xs loads
+in_rest prefix rest xs loads whole t = record {
+  before = prefix ++ t.before;
   there = t.there;
   after = t.after;
-  whole = whole ∙ (ap (λ (l : List TrailStep). front ++ l) t.whole ∙ sym (append_assoc front t.before (t.there ++ t.after)));
+  whole = whole ∙ (ap (λ (l : List TrailStep). prefix ++ l) t.whole ∙ sym (append_assoc prefix t.before (t.there ++ t.after)));
   same = t.same;
 }
 
@@ -53,8 +53,8 @@ module _ (k : Key) where
   unfolding claiming_row
   one_row f row xs runs =
       let a = splits k f (trying (LoadRow row word.Claim) 0) _ xs false runs in
-      let load = one_load k f (LoadRow row word.Claim) _ _ a.front a.answer tt a.first in
-      let g = after_steps k f a.front in
+      let load = one_load k f (LoadRow row word.Claim) _ _ a.prefix a.answer tt a.first in
+      let g = after_steps k f a.prefix in
       ⊎_elim
       (λ free.
       let exchange = one_load k g (Claim row) _ _ a.rest false tt free.1 in
@@ -91,17 +91,17 @@ module _ (k : Key) where
   each_row zero f row xs runs i small = absurd (omega arith)
   each_row (suc n) f row xs runs i small =
       let a = splits k f (claiming_row row) _ xs None runs in
-      let g = after_steps k f a.front in
+      let g = after_steps k f a.prefix in
       ⊎_elim
       (λ won. let e = nothing_run k g a.rest (Some row) None won.1 in let clash = e.1 in absurd (cc))
       (λ lost.
-      by_row a.front a.rest (one_row f row a.front (subst (λ (b : Bool). Runs k f (claiming_row row) a.front b) lost.0 a.first)) a.whole
+      by_row a.prefix a.rest (one_row f row a.prefix (subst (λ (b : Bool). Runs k f (claiming_row row) a.prefix b) lost.0 a.first)) a.whole
       (λ j less. each_row n g (next_row k row) a.rest lost.1 j less) i small)
       (branch k g a.answer _ _ a.rest None a.second)
     where
-      by_row : (front rest : List TrailStep) → WasClaimed front row → xs ≡ front ++ rest → ((j : ℕ) → j < n → WasClaimed rest (row_after k j (next_row k row))) → (j : ℕ) → j < suc n → WasClaimed xs (row_after k j row)
-      by_row front rest here whole others zero less = claimed_on front xs row (λ loads. in_front front rest xs loads whole) here
-      by_row front rest here whole others (suc j) less = claimed_on rest xs (row_after k j (next_row k row)) (λ loads. in_rest front rest xs loads whole) (others j (omega arith))
+      by_row : (prefix rest : List TrailStep) → WasClaimed prefix row → xs ≡ prefix ++ rest → ((j : ℕ) → j < n → WasClaimed rest (row_after k j (next_row k row))) → (j : ℕ) → j < suc n → WasClaimed xs (row_after k j row)
+      by_row prefix rest here whole others zero less = claimed_on prefix xs row (λ loads. in_front prefix rest xs loads whole) here
+      by_row prefix rest here whole others (suc j) less = claimed_on rest xs (row_after k j (next_row k row)) (λ loads. in_rest prefix rest xs loads whole) (others j (omega arith))
 
   all_rows : (f : Fields) (xs : List TrailStep) → Runs k f (claiming k) xs None → (i : ℕ) → i < min 8 k.sizes.rows → WasClaimed xs (row_after k i f.cursor)
   unfolding claiming

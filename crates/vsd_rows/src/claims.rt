@@ -15,9 +15,9 @@ use crate::hand::Hand;
 use vsd_table::{RowWord, Shared};
 use vsd_words::Handle;
 
-/// Claims a free row, which is then private to the caller. Tries eight rows at most, from the cursor
-/// on, round the end: each by one load and, where it was loaded as free, one exchange. The cursor
-/// then stands after the last row tried.
+/// Claims a free row, below the sizes' `rows`, which is then private to the caller. Tries eight rows at
+/// most, from the cursor on, round the end: each by one load and, where it was loaded as free, one
+/// exchange. The cursor then stands after the last row tried.
 ///
 /// `None` comes only where each of these rows was loaded as claimed or its exchange was lost, and
 /// without a step where there are no rows.

@@ -27,8 +27,8 @@ pub fn room(hand: &Hand) -> bool
 }
 
 /// Retires the row that the caller's latest exchange or swap took out of its cell or bucket: loads the
-/// epoch, with which the row enters limbo at its end, and where the epoch is below 2^62 tries one
-/// exchange of it to the next one.
+/// epoch, at most 2^62, with which the row enters limbo at its end, and where the epoch is below 2^62 tries
+/// one exchange of it to the next one. Fewer than 16 rows are in limbo before.
 pub fn retire(table: &Shared, hand: &mut Hand, row: u16)
     requires seat { Belongs table.now hand.old.seated }
     requires row { row < (key_of table.now).sizes.rows }

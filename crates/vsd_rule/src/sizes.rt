@@ -25,7 +25,7 @@ pub struct Sizes {
 }
 
 impl Sizes {
-    /// Whether each size is in its range.
+    /// Whether each size is in the range that its field tells.
     pub fn lawful(&self) -> bool
         ensures { IsTrue result ↔ LawfulSizes self.now }
     {

@@ -58,7 +58,8 @@ fn name_all(alloc: Global, script: &Script, tables: &Tables) -> Result<Naming, A
 /// in the tables. `answers` has for each lane one answer per call and cast: of a call 0 where the slot is missing, else one
 /// more than the number of a method that is selected; of a cast 1 for yes and 0 for no.
 ///
-/// After an error the sink took a first part of the lines: at `Memory` perhaps nothing or all, at `Failed` not all.
+/// After an error the sink took a first part of the lines: at `Memory`, want of memory, perhaps nothing or all, at `Failed`,
+/// which comes exactly where the sink counted a fault, not all.
 pub fn render<K: Sink>(
     alloc: Global,
     script: &Script,

@@ -29,7 +29,8 @@ use vsd_terms::Term;
 use vsd_text::{Token, lex};
 use vsd_types::{Closed, close};
 
-/// What a text answers, or its first refusal: the stages in their order.
+/// What a text answers, or why there are no answers: the stages in their order. `Refused` has the text's first refusal, and
+/// comes only where that is how the text ends; `Memory` is want of memory.
 pub fn answer(alloc: Global, text: &[u8]) -> Result<Prepared, Stopped>
     ensures { Settles (Ends text.now) result }
 {

@@ -10,8 +10,8 @@ use std::alloc::Global;
 use vsd_lines::{LinesError, write_lines};
 use vsd_outside::Sink;
 
-/// Writes the lines of answers, in pages of about 64 KB. After an error the sink took a first part of them: at want of
-/// memory perhaps nothing or all, after a write fault not all.
+/// Writes the lines of answers, in pages of about 64 KB. After an error the sink took a first part of them: at `Memory`, want
+/// of memory, perhaps nothing or all, at `Failed`, which comes exactly where the sink counted a fault, not all.
 #[tactic(auto, unfolding(crate::specs::Settling::bytes_of))]
 pub fn write_answers<K: Sink>(
     alloc: Global,

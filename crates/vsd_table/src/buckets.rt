@@ -9,8 +9,8 @@ use crate::seated::Seated;
 use crate::shared::Shared;
 
 impl Seated {
-    /// Loads a bucket: the row that it names, or `None` where it is empty. A pinned caller protects
-    /// that row from here on.
+    /// Loads a bucket: the row that it names, below the sizes' `rows`, or `None` where it is empty. A
+    /// pinned caller protects that row from here on.
     #[inline]
     pub fn bucket(&mut self, table: &Shared, bucket: u32) -> Option<u16>
         requires seat { Belongs table.now self.old }

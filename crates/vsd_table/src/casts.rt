@@ -1,5 +1,6 @@
 //! The steps on the region and on cast rows, which are read and written as under a sequence lock: an odd version says
-//! that its row is being written, and a reader loads the version before and after the other two words.
+//! that its row is being written, and a reader loads the version before and after the other two words. Regions are numbered
+//! from 0, and the rows of region `r` from 0 to below 128 * 2^`r`.
 ghost use Rattle.std.specs.Prelude.{◌≡◌, ◌<◌, ◌≤◌, ◌+◌, ◌*◌, ◌%◌, ◌^◌, ℕ, ◌∷◌, Bool, Some, IsTrue, ◌↔◌};
 ghost use Rattle.vsd_words.specs.declared.handle.Handle.{Handle};
 ghost use Rattle.vsd_words.specs.Handle.{HandleInRange, IsHandlePacking};
@@ -23,7 +24,8 @@ use vsd_rule::Begins;
 use vsd_words::{CastWord, Handle};
 
 impl Seated {
-    /// Loads the region in use, and begins a cast of `source` to `target`.
+    /// Loads the region in use, and begins a cast of `source` to `target`. Answers the region's number, below the
+    /// sizes' `regions`.
     #[inline]
     pub fn region(&mut self, table: &Shared, source: Handle, target: Handle) -> u16
         requires seat { Belongs table.now self.old }
@@ -37,7 +39,8 @@ impl Seated {
         found as u16
     }
 
-    /// Makes the next region the one in use, where `region` still is. Answers whether it was, and the region found.
+    /// Makes the next region the one in use, where `region`, which isn't the last, still is. Answers whether it was, and the
+    /// number of the region found, below the sizes' `regions`.
     #[inline]
     pub fn grow(&mut self, table: &Shared, region: u16) -> (bool, u16)
         requires seat { Belongs table.now self.old }
@@ -53,7 +56,7 @@ impl Seated {
         (found == old, found as u16)
     }
 
-    /// Loads a cast row's version, at which a look at it begins.
+    /// Loads a cast row's version, at most 2^62, at which a look at it begins.
     #[inline]
     pub fn version(&mut self, table: &Shared, region: u16, row: u32) -> u64
         requires seat { Belongs table.now self.old }
@@ -128,8 +131,8 @@ impl Seated {
         (found == 0, found)
     }
 
-    /// Makes an even version of a cast row odd, by one exchange to the next. Answers whether it was won, and the version
-    /// found.
+    /// Makes an even version of a cast row, above 0 and below 2^62, odd, by one exchange to the next. Answers whether it was
+    /// won, and the version found.
     #[inline]
     pub fn reclaim_cast(
         &mut self,
@@ -185,8 +188,8 @@ impl Seated {
         self.store::<SetCast>(table, index + 2, word.pack());
     }
 
-    /// Stores the next even version of a cast row whose version this caller made odd. The source and the cast word that
-    /// it stored since then are an evidence of the caller.
+    /// Stores `version`, the next even one, of a cast row whose version this caller made odd. The source and the cast word
+    /// that it stored since then are an evidence of the caller.
     #[inline]
     pub fn publish(&mut self, table: &Shared, region: u16, row: u32, version: u64)
         requires seat { Belongs table.now self.old }

@@ -13,7 +13,8 @@ use crate::shared::Shared;
 use vsd_words::CellWord;
 
 impl Seated {
-    /// Loads a site's cell. A pinned caller protects the row that it names from here on.
+    /// Loads a site's cell. A row that it names is below the sizes' `rows`, and a pinned caller
+    /// protects it from here on.
     #[inline]
     pub fn cell(&mut self, table: &Shared, site: u16) -> CellWord
         requires seat { Belongs table.now self.old }

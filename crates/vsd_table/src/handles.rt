@@ -29,8 +29,9 @@ impl Seated {
         unpacked(found)
     }
 
-    /// Stores the word of one of the caller's own rows: live, of type `number`, at `generation`,
-    /// which is one more than before. The caller learns the binding.
+    /// Stores the word of one of the caller's own rows: live, of type `number`, which is below the
+    /// world's count of types, at `generation`, which is one more than before. The caller learns the
+    /// binding.
     #[inline]
     pub fn bind(&mut self, table: &Shared, row: u16, generation: u32, number: u16)
         requires seat { Belongs table.now self.old }
@@ -47,7 +48,8 @@ impl Seated {
         self.store::<Bind>(table, index, word);
     }
 
-    /// Stores the word of one of the caller's own rows as it is, but not live.
+    /// Stores the word of one of the caller's own rows not live, at the generation and of the type's
+    /// number that it has.
     #[inline]
     pub fn unbind(&mut self, table: &Shared, row: u16, generation: u32, number: u16)
         requires seat { Belongs table.now self.old }

@@ -11,8 +11,8 @@ use vsd_rule::RowWord;
 
 impl Seated {
     /// Retires the row that the caller's latest exchange or swap took out of its cell or bucket:
-    /// loads the epoch, with which the row enters limbo. Whoever protects the row is pinned at that
-    /// epoch or before. At most 16 rows are in limbo.
+    /// loads the epoch, at most 2^62, with which the row enters limbo. Whoever protects the row is
+    /// pinned at that epoch or before. At most 16 rows are in limbo, this one with them.
     #[inline]
     pub fn epoch_to_retire(&mut self, table: &Shared, row: u16) -> u64
         requires seat { Belongs table.now self.old }
@@ -26,8 +26,8 @@ impl Seated {
         self.load::<EpochToRetire>(table, 0)
     }
 
-    /// Tries to raise the epoch by one, by one exchange. Answers whether it was won, and the epoch
-    /// found.
+    /// Tries to raise the epoch by one from `epoch`, below 2^62, by one exchange. Answers whether it
+    /// was won, and the epoch found.
     #[inline]
     pub fn raise(&mut self, table: &Shared, epoch: u64) -> (bool, u64)
         requires seat { Belongs table.now self.old }
@@ -40,8 +40,9 @@ impl Seated {
         (found == epoch, found)
     }
 
-    /// Loads a caller's epoch word for the sweep of the oldest row in limbo. A sweep begins at
-    /// caller 0, and passes a caller whose word is 0 or at least the row's epoch plus 2.
+    /// Loads a caller's epoch word for the sweep of the oldest row in limbo: 0 where the caller isn't
+    /// pinned, else one more than the epoch at which it is. A sweep begins at caller 0, and passes a
+    /// caller whose word is 0 or at least the row's epoch plus 2.
     #[inline]
     pub fn epoch_of(&mut self, table: &Shared, caller: u16) -> u64
         requires seat { Belongs table.now self.old }

@@ -39,9 +39,10 @@ struct Embedder<'a, R> {
 /// Lays out a table of these sizes, with one seat per caller, in order of the callers' numbers.
 ///
 /// `sites` has the token of each call site, and `hosts` the number of each host's type. The world
-/// that answers calls and casts is the resolver's. At opening all cells are at Lookup, all rows
-/// free, all buckets empty, all counters, versions and the epoch 0, and the hosts' handles live at
-/// generation 1.
+/// that answers calls and casts is the resolver's: tokens are below its count of tokens, and types
+/// below its count of types. At opening all cells are at Lookup, all rows free, all buckets empty,
+/// all counters, versions and the epoch 0, and the hosts' handles live at generation 1. The error is
+/// want of memory.
 pub fn layout<R: Resolver>(
     alloc: Global,
     sizes: Sizes,

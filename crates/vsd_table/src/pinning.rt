@@ -10,7 +10,7 @@ use crate::shared::Shared;
 use vsd_rule::{Begins, Doing};
 
 impl Seated {
-    /// Loads the epoch, and begins this operation. `Doing::Nothing` begins none.
+    /// Loads the epoch, at most 2^62, and begins this operation. `Doing::Nothing` begins none.
     #[inline]
     pub fn epoch(&mut self, table: &Shared, doing: Doing) -> u64
         requires seat { Belongs table.now self.old }

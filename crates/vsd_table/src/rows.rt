@@ -13,7 +13,8 @@ use vsd_words::Handle;
 
 impl Seated {
     /// Tries to claim a row by one exchange of its claim word from free to claimed. Answers whether
-    /// it was won, and the word found. A row that was won is private to the caller.
+    /// it was won, and the word found: 0 for free, 1 for claimed. A row that was won is private to the
+    /// caller.
     #[inline]
     pub fn claim(&mut self, table: &Shared, row: u16) -> (bool, u64)
         requires seat { Belongs table.now self.old }
@@ -82,9 +83,11 @@ impl Seated {
         self.store::<Free>(table, index, 0);
     }
 
-    /// Loads one of a row's words, and answers it as it stands. The load of the claim word moves the
-    /// cursor to the row after it, round the end. What is loaded of a row that the caller protects
-    /// is found again by each later load, until the caller unpins: no word of it is stored meanwhile.
+    /// Loads one of a row's words, and answers it as it stands: the claim word is 0 or 1, the handle's
+    /// a packed handle, the token below 2^16 and the target below 2^32. The load of the claim word
+    /// moves the cursor to the row after it, round the end. What is loaded of a row that the caller
+    /// protects is found again by each later load, until the caller unpins: no word of it is stored
+    /// meanwhile.
     #[inline]
     pub fn row_word(&mut self, table: &Shared, row: u16, which: RowWord) -> u64
         requires seat { Belongs table.now self.old }

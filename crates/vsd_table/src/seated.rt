@@ -25,7 +25,7 @@ pub struct Seated {
 impl Seated {
     ghost use Rattle.vsd_table.specs.Seating.{view_of};
 
-    /// The number of the caller whose seat it is.
+    /// The number of the caller whose seat it is, from 0 to below the sizes' `callers`.
     pub fn caller(&self) -> u16
         ensures number { result ≡ caller_of (view_of self.now).who }
         ensures in_range { result < (view_of self.now).key.sizes.callers }

@@ -28,20 +28,20 @@ use Rattle.vsd_trails.proofs.Loads.{IsNoUnbind, one_load, nothing_run, branch}
 
 -- ---- parts of parts
 
-part_first : (k : Key) (f : Fields) (front rest : List TrailStep) (at : Fields) (there : List TrailStep) → Part k f front at there → Part k f (front ++ rest) at there
-part_first k f front rest at there p = record {
+part_first : (k : Key) (f : Fields) (prefix rest : List TrailStep) (at : Fields) (there : List TrailStep) → Part k f prefix at there → Part k f (prefix ++ rest) at there
+part_first k f prefix rest at there p = record {
   before = p.before;
   after = p.after ++ rest;
   whole = ap (λ (l : List TrailStep). l ++ rest) p.whole ∙ (append_assoc p.before (there ++ p.after) rest ∙ ap (λ (l : List TrailStep). p.before ++ l) (append_assoc there p.after rest));
   fields = p.fields;
 }
 
-part_second : (k : Key) (f : Fields) (front rest : List TrailStep) (at : Fields) (there : List TrailStep) → Part k (after_steps k f front) rest at there → Part k f (front ++ rest) at there
-part_second k f front rest at there p = record {
-  before = front ++ p.before;
+part_second : (k : Key) (f : Fields) (prefix rest : List TrailStep) (at : Fields) (there : List TrailStep) → Part k (after_steps k f prefix) rest at there → Part k f (prefix ++ rest) at there
+part_second k f prefix rest at there p = record {
+  before = prefix ++ p.before;
   after = p.after;
-  whole = ap (λ (l : List TrailStep). front ++ l) p.whole ∙ sym (append_assoc front p.before (there ++ p.after));
-  fields = p.fields ∙ sym (after_steps-append k f front p.before);
+  whole = ap (λ (l : List TrailStep). prefix ++ l) p.whole ∙ sym (append_assoc prefix p.before (there ++ p.after));
+  fields = p.fields ∙ sym (after_steps-append k f prefix p.before);
 }
 
 all_of_it : (k : Key) (f : Fields) (xs : List TrailStep) → Part k f xs f xs
@@ -91,16 +91,16 @@ module _ (k : Key) (h : Handle) (token target : ℕ) where
   unfolding filling
   fills f row act read g xs b plain runs =
       let fill = splits k f (filling row h token target) (λ u. bind (reading act read) g) xs b runs in
-      let a = splits k f (making (SetHandle row h)) _ fill.front fill.answer fill.first in
-      let handle = one_load k f (SetHandle row h) None _ a.front a.answer tt a.first in
-      let f1 = after_steps k f a.front in
+      let a = splits k f (making (SetHandle row h)) _ fill.prefix fill.answer fill.first in
+      let handle = one_load k f (SetHandle row h) None _ a.prefix a.answer tt a.first in
+      let f1 = after_steps k f a.prefix in
       let c = splits k f1 (making (SetToken row token)) _ a.rest fill.answer a.second in
-      let its_token = one_load k f1 (SetToken row token) None _ c.front c.answer tt c.first in
-      let its_target = one_load k (after_steps k f1 c.front) (SetTarget row target) None _ c.rest fill.answer tt c.second in
-      let f2 = after_steps k f fill.front in
+      let its_token = one_load k f1 (SetToken row token) None _ c.prefix c.answer tt c.first in
+      let its_target = one_load k (after_steps k f1 c.prefix) (SetTarget row target) None _ c.rest fill.answer tt c.second in
+      let f2 = after_steps k f fill.prefix in
       let d = splits k f2 (reading act read) g fill.rest b fill.second in
-      let last = one_load k f2 act None read d.front d.answer plain d.first in
-      let stores : fill.front ≡ handle.step ∷ its_token.step ∷ its_target.step ∷ [] =
+      let last = one_load k f2 act None read d.prefix d.answer plain d.first in
+      let stores : fill.prefix ≡ handle.step ∷ its_token.step ∷ its_target.step ∷ [] =
       a.whole ∙ (ap (λ (l : List TrailStep). l ++ a.rest) handle.is ∙ ap (λ (l : List TrailStep). handle.step ∷ l) (c.whole ∙ (ap (λ (l : List TrailStep). l ++ c.rest) its_token.is ∙ ap (λ (l : List TrailStep). its_token.step ∷ l) its_target.is))) in
       record {
         handle = handle.step;
@@ -125,21 +125,21 @@ module _ (k : Key) (h : Handle) (token target : ℕ) where
     where
       by_given : (a : TwoRuns _ _ k f (claiming k) g xs b) (given : Option ℕ) → a.answer ≡ given → TriesRow k f h token target publish xs
       by_given a None is =
-          let rest = ends (after_steps k f a.front) a.rest (subst (λ (o : Option ℕ). Runs k (after_steps k f a.front) (g o) a.rest b) is a.second) in
-          let whole : xs ≡ a.front = a.whole ∙ (ap (λ (l : List TrailStep). a.front ++ l) rest ∙ append-nil a.front) in
-          inl (subst (λ (l : List TrailStep). Runs k f (claiming k) l None) (sym whole) (subst (Runs k f (claiming k) a.front) is a.first))
+          let rest = ends (after_steps k f a.prefix) a.rest (subst (λ (o : Option ℕ). Runs k (after_steps k f a.prefix) (g o) a.rest b) is a.second) in
+          let whole : xs ≡ a.prefix = a.whole ∙ (ap (λ (l : List TrailStep). a.prefix ++ l) rest ∙ append-nil a.prefix) in
+          inl (subst (λ (l : List TrailStep). Runs k f (claiming k) l None) (sym whole) (subst (Runs k f (claiming k) a.prefix) is a.first))
       by_given a (Some row) is =
-          let s = fills_row (after_steps k f a.front) row a.rest (subst (λ (o : Option ℕ). Runs k (after_steps k f a.front) (g o) a.rest b) is a.second) in
+          let s = fills_row (after_steps k f a.prefix) row a.rest (subst (λ (o : Option ℕ). Runs k (after_steps k f a.prefix) (g o) a.rest b) is a.second) in
           inr (record {
             row = row;
-            claims = a.front;
+            claims = a.prefix;
             handle = s.handle;
             its_token = s.its_token;
             its_target = s.its_target;
             last = s.last;
             more = s.more;
-            whole = a.whole ∙ ap (λ (l : List TrailStep). a.front ++ l) s.whole;
-            claimed = subst (Runs k f (claiming k) a.front) is a.first;
+            whole = a.whole ∙ ap (λ (l : List TrailStep). a.prefix ++ l) s.whole;
+            claimed = subst (Runs k f (claiming k) a.prefix) is a.first;
             handle_is = s.handle_is;
             token_is = s.token_is;
             target_is = s.target_is;
@@ -167,17 +167,17 @@ module _ (k : Key) (site : ℕ) (h : Handle) where
 
   -- ---- the walk's row, and the cell's
 
-  bucket_first : (target : ℕ) (f : Fields) (front rest : List TrailStep) → TriesBucket k site h target f front → TriesBucket k site h target f (front ++ rest)
-  bucket_first target f front rest t = record { at = t.at; there = t.there; part = part_first k f front rest t.at t.there t.part; tries = t.tries }
+  bucket_first : (target : ℕ) (f : Fields) (prefix rest : List TrailStep) → TriesBucket k site h target f prefix → TriesBucket k site h target f (prefix ++ rest)
+  bucket_first target f prefix rest t = record { at = t.at; there = t.there; part = part_first k f prefix rest t.at t.there t.part; tries = t.tries }
 
-  bucket_second : (target : ℕ) (f : Fields) (front rest : List TrailStep) → TriesBucket k site h target (after_steps k f front) rest → TriesBucket k site h target f (front ++ rest)
-  bucket_second target f front rest t = record { at = t.at; there = t.there; part = part_second k f front rest t.at t.there t.part; tries = t.tries }
+  bucket_second : (target : ℕ) (f : Fields) (prefix rest : List TrailStep) → TriesBucket k site h target (after_steps k f prefix) rest → TriesBucket k site h target f (prefix ++ rest)
+  bucket_second target f prefix rest t = record { at = t.at; there = t.there; part = part_second k f prefix rest t.at t.there t.part; tries = t.tries }
 
-  cell_first : (target : ℕ) (f : Fields) (front rest : List TrailStep) → TriesCell k site h target f front → TriesCell k site h target f (front ++ rest)
-  cell_first target f front rest t = record { at = t.at; there = t.there; part = part_first k f front rest t.at t.there t.part; tries = t.tries }
+  cell_first : (target : ℕ) (f : Fields) (prefix rest : List TrailStep) → TriesCell k site h target f prefix → TriesCell k site h target f (prefix ++ rest)
+  cell_first target f prefix rest t = record { at = t.at; there = t.there; part = part_first k f prefix rest t.at t.there t.part; tries = t.tries }
 
-  cell_second : (target : ℕ) (f : Fields) (front rest : List TrailStep) → TriesCell k site h target (after_steps k f front) rest → TriesCell k site h target f (front ++ rest)
-  cell_second target f front rest t = record { at = t.at; there = t.there; part = part_second k f front rest t.at t.there t.part; tries = t.tries }
+  cell_second : (target : ℕ) (f : Fields) (prefix rest : List TrailStep) → TriesCell k site h target (after_steps k f prefix) rest → TriesCell k site h target f (prefix ++ rest)
+  cell_second target f prefix rest t = record { at = t.at; there = t.there; part = part_second k f prefix rest t.at t.there t.part; tries = t.tries }
 
   -- what an answer asks of the trail: a walk tries the bucket
   abbrev pub WalkTries : Fields → List TrailStep → Result Answer Unloaded → Type 0
@@ -197,19 +197,19 @@ module _ (k : Key) (site : ℕ) (h : Handle) where
       let token = site_token k site in
       let target = target_of k number token in
       let a = splits k f (caching k token h target) _ xs answer runs in
-      let g = after_steps k f a.front in
+      let g = after_steps k f a.prefix in
       let b = splits k g (installing k site h cell target) _ a.rest answer a.second in
-      let e = nothing_run k (after_steps k g b.front) b.rest (by_walk target seen) answer b.second in
+      let e = nothing_run k (after_steps k g b.prefix) b.rest (by_walk target seen) answer b.second in
       let is_walk : answer ≡ by_walk target seen = sym e.1 in
       let cached : TriesBucket k site h target f xs = subst (TriesBucket k site h target f) (sym a.whole)
-      (bucket_first target f a.front a.rest (record { at = f; there = a.front; part = all_of_it k f a.front; tries = caching_tries k h token target f a.front a.answer a.first })) in
+      (bucket_first target f a.prefix a.rest (record { at = f; there = a.prefix; part = all_of_it k f a.prefix; tries = caching_tries k h token target f a.prefix a.answer a.first })) in
       let installed : cell ≡ Lookup → TriesCell k site h target f xs = λ looked. subst (TriesCell k site h target f) (sym a.whole)
-      (cell_second target f a.front a.rest (subst (TriesCell k site h target g) (sym b.whole)
-      (cell_first target g b.front b.rest (record {
+      (cell_second target f a.prefix a.rest (subst (TriesCell k site h target g) (sym b.whole)
+      (cell_first target g b.prefix b.rest (record {
         at = g;
-        there = b.front;
-        part = all_of_it k g b.front;
-        tries = installing_tries target g b.front b.answer (subst (λ (w : CellWord). Runs k g (installing k site h w target) b.front b.answer) looked b.first);
+        there = b.prefix;
+        part = all_of_it k g b.prefix;
+        tries = installing_tries target g b.prefix b.answer (subst (λ (w : CellWord). Runs k g (installing k site h w target) b.prefix b.answer) looked b.first);
       })))) in (
         λ other seen' is. subst (λ (t : ℕ). TriesBucket k site h t f xs) (target_same _ _ answer is_walk is) cached,
         λ x looked is. subst (λ (t : ℕ). TriesCell k site h t f xs) (target_same _ x answer is_walk is) (installed looked),
@@ -219,9 +219,9 @@ module _ (k : Key) (site : ℕ) (h : Handle) where
   unfolding walking
   walking_tries f cell seen xs answer runs =
       let a = splits k f (typing h) (walking_by k site h cell seen) xs answer runs in
-      let t = walked_tries (after_steps k f a.front) cell seen a.answer a.rest answer a.second in (
-        λ target seen' is. subst (TriesBucket k site h target f) (sym a.whole) (bucket_second target f a.front a.rest (t.0 target seen' is)),
-        λ x looked is. subst (TriesCell k site h x.target f) (sym a.whole) (cell_second x.target f a.front a.rest (t.1 x looked is)),
+      let t = walked_tries (after_steps k f a.prefix) cell seen a.answer a.rest answer a.second in (
+        λ target seen' is. subst (TriesBucket k site h target f) (sym a.whole) (bucket_second target f a.prefix a.rest (t.0 target seen' is)),
+        λ x looked is. subst (TriesCell k site h x.target f) (sym a.whole) (cell_second x.target f a.prefix a.rest (t.1 x looked is)),
       )
 
   resolving_tries : (f : Fields) (cell : CellWord) (expected : Option Handle) (found : Found) (xs : List TrailStep) (answer : Result Answer Unloaded)
@@ -229,14 +229,14 @@ module _ (k : Key) (site : ℕ) (h : Handle) where
   unfolding resolving_by
   resolving_tries f cell expected (Hit target) xs answer runs =
       let a = splits k f (installing k site h cell target) _ xs answer runs in
-      let e = nothing_run k (after_steps k f a.front) a.rest (by_bucket target) answer a.second in
+      let e = nothing_run k (after_steps k f a.prefix) a.rest (by_bucket target) answer a.second in
       let is_hit : answer ≡ by_bucket target = sym e.1 in (
         λ other seen is. absurd (no_walk (record { target = target; path = Bucket }) seen refl (path_same _ _ answer is_hit is)),
-        λ x looked is. subst (λ (t : ℕ). TriesCell k site h t f xs) (target_same _ x answer is_hit is) (subst (TriesCell k site h target f) (sym a.whole) (cell_first target f a.front a.rest (record {
+        λ x looked is. subst (λ (t : ℕ). TriesCell k site h t f xs) (target_same _ x answer is_hit is) (subst (TriesCell k site h target f) (sym a.whole) (cell_first target f a.prefix a.rest (record {
           at = f;
-          there = a.front;
-          part = all_of_it k f a.front;
-          tries = installing_tries target f a.front a.answer (subst (λ (w : CellWord). Runs k f (installing k site h w target) a.front a.answer) looked a.first);
+          there = a.prefix;
+          part = all_of_it k f a.prefix;
+          tries = installing_tries target f a.prefix a.answer (subst (λ (w : CellWord). Runs k f (installing k site h w target) a.prefix a.answer) looked a.first);
         }))),
       )
   resolving_tries f cell expected (Other g t) xs answer runs = walking_tries f cell (seen_by cell expected (Other g t)) xs answer runs
@@ -252,9 +252,9 @@ module _ (k : Key) (site : ℕ) (h : Handle) where
       )
   stub_tries f cell (stub_miss expected) xs answer no_hit runs =
       let a = splits k f (finding k (site_token k site) h) (resolving_by k site h cell expected) xs answer runs in
-      let t = resolving_tries (after_steps k f a.front) cell expected a.answer a.rest answer a.second in (
-        λ target seen is. subst (TriesBucket k site h target f) (sym a.whole) (bucket_second target f a.front a.rest (t.0 target seen is)),
-        λ x looked is. subst (TriesCell k site h x.target f) (sym a.whole) (cell_second x.target f a.front a.rest (t.1 x looked is)),
+      let t = resolving_tries (after_steps k f a.prefix) cell expected a.answer a.rest answer a.second in (
+        λ target seen is. subst (TriesBucket k site h target f) (sym a.whole) (bucket_second target f a.prefix a.rest (t.0 target seen is)),
+        λ x looked is. subst (TriesCell k site h x.target f) (sym a.whole) (cell_second x.target f a.prefix a.rest (t.1 x looked is)),
       )
 
   no_stub : (f : Fields) (cell : CellWord) (stubbed : Stubbed) (xs : List TrailStep) → Runs k f (stubbing k site h cell) xs stubbed → cell ≡ Lookup → (target : ℕ) → stubbed ≡ stub_hit target → ⊥
@@ -270,11 +270,11 @@ module _ (k : Key) (site : ℕ) (h : Handle) where
   parts_try f trail answer p =
       let cell = unpacked_cell p.cell.step.found in
       let t = stub_tries p.at_later cell p.stubbed p.later answer (no_stub p.at_looks cell p.stubbed p.looks p.looks_run) p.later_run in
-      let front = p.pins ++ p.cell ∷ p.looks in
-      let whole : front ++ (p.later ++ p.ends) ≡ trail = append_assoc p.pins (p.cell ∷ p.looks) (p.later ++ p.ends) ∙ sym p.whole in (
-        λ target seen is. subst (TriesBucket k site h target f) whole (bucket_second target f front (p.later ++ p.ends)
+      let prefix = p.pins ++ p.cell ∷ p.looks in
+      let whole : prefix ++ (p.later ++ p.ends) ≡ trail = append_assoc p.pins (p.cell ∷ p.looks) (p.later ++ p.ends) ∙ sym p.whole in (
+        λ target seen is. subst (TriesBucket k site h target f) whole (bucket_second target f prefix (p.later ++ p.ends)
             (subst (λ (g : Fields). TriesBucket k site h target g (p.later ++ p.ends)) p.later_fields (bucket_first target p.at_later p.later p.ends (t.0 target seen is)))),
-        λ x looked is. subst (TriesCell k site h x.target f) whole (cell_second x.target f front (p.later ++ p.ends)
+        λ x looked is. subst (TriesCell k site h x.target f) whole (cell_second x.target f prefix (p.later ++ p.ends)
             (subst (λ (g : Fields). TriesCell k site h x.target g (p.later ++ p.ends)) p.later_fields (cell_first x.target p.at_later p.later p.ends (t.1 x looked is)))),
       )
 

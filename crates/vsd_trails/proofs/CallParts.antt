@@ -189,13 +189,13 @@ module _ (k : Key) (site : ℕ) (h : Handle) where
   unfolding leaving
   leaves f given xs answer runs =
       let d = splits k f unpinning _ xs answer runs in
-      let g = after_steps k f d.front in
+      let g = after_steps k f d.prefix in
       let e = splits k g (sweeping k) _ d.rest answer d.second in
-      let end = nothing_run k (after_steps k g e.front) e.rest given answer e.second in
-      let same : xs ≡ d.front ++ (e.front ++ e.rest) = d.whole ∙ ap (λ (l : List TrailStep). d.front ++ l) e.whole in
+      let end = nothing_run k (after_steps k g e.prefix) e.rest given answer e.second in
+      let same : xs ≡ d.prefix ++ (e.prefix ++ e.rest) = d.whole ∙ ap (λ (l : List TrailStep). d.prefix ++ l) e.whole in
       let no_more : EachStep Others e.rest = subst (EachStep Others) (sym end.0) tt in (
-        subst (EachStep Others) (sym same) (each_append Others d.front (e.front ++ e.rest) (makes_only Others k f unpinning d.front d.answer (tt, λ word. tt) d.first)
-            (each_append Others e.front e.rest (makes_only Others k g (sweeping k) e.front e.answer (sweeping_others k).only e.first) no_more)),
+        subst (EachStep Others) (sym same) (each_append Others d.prefix (e.prefix ++ e.rest) (makes_only Others k f unpinning d.prefix d.answer (tt, λ word. tt) d.first)
+            (each_append Others e.prefix e.rest (makes_only Others k g (sweeping k) e.prefix e.answer (sweeping_others k).only e.first) no_more)),
         end.1,
       )
 
@@ -205,24 +205,24 @@ module _ (k : Key) (site : ℕ) (h : Handle) where
   answers before cell x xs answer is reads runs =
       let f = after_step k before x in
       let c = splits k f (answering k site h cell) leaving xs answer runs in
-      let s = answering_parts f cell c.front c.answer c.first in
-      let end = leaves (after_steps k f c.front) c.answer c.rest answer c.second in
+      let s = answering_parts f cell c.prefix c.answer c.first in
+      let end = leaves (after_steps k f c.prefix) c.answer c.rest answer c.second in
       record {
         pins = [];
         cell = x;
-        looks = s.front;
+        looks = s.prefix;
         later = s.rest;
         ends = c.rest;
         at_looks = f;
-        at_later = after_steps k f s.front;
+        at_later = after_steps k f s.prefix;
         stubbed = s.answer;
-        whole = ap (λ (l : List TrailStep). x ∷ l) (c.whole ∙ (ap (λ (l : List TrailStep). l ++ c.rest) s.whole ∙ append_assoc s.front s.rest c.rest));
+        whole = ap (λ (l : List TrailStep). x ∷ l) (c.whole ∙ (ap (λ (l : List TrailStep). l ++ c.rest) s.whole ∙ append_assoc s.prefix s.rest c.rest));
         pins_others = tt;
         cell_is = is;
-        looks_run = subst (λ (w : CellWord). Runs k f (stubbing k site h w) s.front s.answer) (sym reads) s.first;
-        looks_others = makes_only Others k f (stubbing k site h cell) s.front s.answer (stubbing_others cell).only s.first;
-        later_run = subst (λ (w : CellWord). Runs k (after_steps k f s.front) (answering_by k site h w s.answer) s.rest answer) (sym reads)
-            (subst (Runs k (after_steps k f s.front) (answering_by k site h cell s.answer) s.rest) end.1 s.second);
+        looks_run = subst (λ (w : CellWord). Runs k f (stubbing k site h w) s.prefix s.answer) (sym reads) s.first;
+        looks_others = makes_only Others k f (stubbing k site h cell) s.prefix s.answer (stubbing_others cell).only s.first;
+        later_run = subst (λ (w : CellWord). Runs k (after_steps k f s.prefix) (answering_by k site h w s.answer) s.rest answer) (sym reads)
+            (subst (Runs k (after_steps k f s.prefix) (answering_by k site h cell s.answer) s.rest) end.1 s.second);
         ends_others = end.0;
         later_fields = refl;
       }
@@ -231,7 +231,7 @@ module _ (k : Key) (site : ℕ) (h : Handle) where
   loads_cell : (f : Fields) (xs : List TrailStep) (answer : Result Answer Unloaded) → Runs k f (bind (reading_cell site) (λ cell. bind (answering k site h cell) leaving)) xs answer → CallParts f xs answer
   loads_cell f xs answer runs =
       let b = splits k f (reading_cell site) (λ cell. bind (answering k site h cell) leaving) xs answer runs in
-      let cell = one_load k f (LoadCell site) None unpacked_cell b.front b.answer tt b.first in
+      let cell = one_load k f (LoadCell site) None unpacked_cell b.prefix b.answer tt b.first in
       let same : xs ≡ cell.step ∷ b.rest = b.whole ∙ ap (λ (l : List TrailStep). l ++ b.rest) cell.is in
       let after : Runs k (after_step k f cell.step) (bind (answering k site h b.answer) leaving) b.rest answer =
       subst (λ (l : List TrailStep). Runs k (after_steps k f l) (bind (answering k site h b.answer) leaving) b.rest answer) cell.is b.second in
@@ -241,9 +241,9 @@ module _ (k : Key) (site : ℕ) (h : Handle) where
   unfolding calling leaving
   call_parts f trail answer runs =
       let a = splits k f (pinning (Call site h)) _ trail answer runs in
-      let p = loads_cell (after_steps k f a.front) a.rest answer a.second in
+      let p = loads_cell (after_steps k f a.prefix) a.rest answer a.second in
       record {
-        pins = a.front ++ p.pins;
+        pins = a.prefix ++ p.pins;
         cell = p.cell;
         looks = p.looks;
         later = p.later;
@@ -251,14 +251,14 @@ module _ (k : Key) (site : ℕ) (h : Handle) where
         at_looks = p.at_looks;
         at_later = p.at_later;
         stubbed = p.stubbed;
-        whole = a.whole ∙ (ap (λ (l : List TrailStep). a.front ++ l) p.whole ∙ sym (append_assoc a.front p.pins (p.cell ∷ (p.looks ++ (p.later ++ p.ends)))));
-        pins_others = each_append Others a.front p.pins (makes_only Others k f (pinning (Call site h)) a.front a.answer (pinning_others (Call site h)).only a.first) p.pins_others;
+        whole = a.whole ∙ (ap (λ (l : List TrailStep). a.prefix ++ l) p.whole ∙ sym (append_assoc a.prefix p.pins (p.cell ∷ (p.looks ++ (p.later ++ p.ends)))));
+        pins_others = each_append Others a.prefix p.pins (makes_only Others k f (pinning (Call site h)) a.prefix a.answer (pinning_others (Call site h)).only a.first) p.pins_others;
         cell_is = p.cell_is;
         looks_run = p.looks_run;
         looks_others = p.looks_others;
         later_run = p.later_run;
         ends_others = p.ends_others;
-        later_fields = p.later_fields ∙ (sym (after_steps-append k f a.front (p.pins ++ p.cell ∷ p.looks)) ∙ ap (after_steps k f) (sym (append_assoc a.front p.pins (p.cell ∷ p.looks))));
+        later_fields = p.later_fields ∙ (sym (after_steps-append k f a.prefix (p.pins ++ p.cell ∷ p.looks)) ∙ ap (after_steps k f) (sym (append_assoc a.prefix p.pins (p.cell ∷ p.looks))));
       }
 
   -- a look at the bucket, and what comes after it
@@ -280,18 +280,18 @@ module _ (k : Key) (site : ℕ) (h : Handle) where
   unfolding answering_by finding
   bucket_parts f cell expected later answer runs =
       let a = splits k f (finding k (site_token k site) h) (resolving_by k site h cell expected) later answer runs in
-      let b = splits k f (looking (bucket_of (site_token k site) h k.sizes.buckets)) (finding_in (site_token k site) h) a.front a.answer a.first in
-      let named = one_load k f (LoadBucket (bucket_of (site_token k site) h k.sizes.buckets)) None unpacked_bucket b.front b.answer tt b.first in
+      let b = splits k f (looking (bucket_of (site_token k site) h k.sizes.buckets)) (finding_in (site_token k site) h) a.prefix a.answer a.first in
+      let named = one_load k f (LoadBucket (bucket_of (site_token k site) h k.sizes.buckets)) None unpacked_bucket b.prefix b.answer tt b.first in
       record {
         named = named.step;
         entries = b.rest;
         rest = a.rest;
-        at_entries = after_steps k f b.front;
-        at_rest = after_steps k f a.front;
+        at_entries = after_steps k f b.prefix;
+        at_rest = after_steps k f a.prefix;
         found = a.answer;
         whole = a.whole ∙ ap (λ (l : List TrailStep). l ++ a.rest) (b.whole ∙ ap (λ (l : List TrailStep). l ++ b.rest) named.is);
         named_is = named.act_is;
-        entries_run = subst (λ (o : Option ℕ). Runs k (after_steps k f b.front) (finding_in (site_token k site) h o) b.rest a.answer) (sym named.answer) b.second;
-        entries_others = makes_only Others k (after_steps k f b.front) (finding_in (site_token k site) h b.answer) b.rest a.answer (finding_in_others (site_token k site) h b.answer).only b.second;
+        entries_run = subst (λ (o : Option ℕ). Runs k (after_steps k f b.prefix) (finding_in (site_token k site) h o) b.rest a.answer) (sym named.answer) b.second;
+        entries_others = makes_only Others k (after_steps k f b.prefix) (finding_in (site_token k site) h b.answer) b.rest a.answer (finding_in_others (site_token k site) h b.answer).only b.second;
         rest_run = a.second;
       }

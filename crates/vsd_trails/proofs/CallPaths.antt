@@ -209,12 +209,12 @@ module _ (k : Key) (site : ℕ) (h : Handle) (f : Fields) (trail : List TrailSte
     bucket : ℕ
     bucket = bucket_of (site_token k site) h k.sizes.buckets
 
-    front : List TrailStep
-    front = p.pins ++ p.cell ∷ p.looks
+    prefix : List TrailStep
+    prefix = p.pins ++ p.cell ∷ p.looks
 
     -- the trail round the load of the bucket
-    at_bucket : trail ≡ front ++ b.named ∷ (b.entries ++ (b.rest ++ p.ends))
-    unfolding front
+    at_bucket : trail ≡ prefix ++ b.named ∷ (b.entries ++ (b.rest ++ p.ends))
+    unfolding prefix
     at_bucket =
         let inner : p.later ++ p.ends ≡ b.named ∷ (b.entries ++ (b.rest ++ p.ends)) = ap (λ (l : List TrailStep). l ++ p.ends) b.whole ∙ ap (λ (l : List TrailStep). b.named ∷ l) (append_assoc b.entries b.rest p.ends) in
         p.whole ∙ (ap (λ (l : List TrailStep). p.pins ++ p.cell ∷ (p.looks ++ l)) inner ∙ sym (append_assoc p.pins (p.cell ∷ p.looks) (b.named ∷ (b.entries ++ (b.rest ++ p.ends)))))
@@ -226,8 +226,8 @@ module _ (k : Key) (site : ℕ) (h : Handle) (f : Fields) (trail : List TrailSte
         let weak = λ (xs : List TrailStep). each_weaker Others Q (λ c. weaker c.act) xs in
         each_append Q b.entries (b.rest ++ p.ends) (weak b.entries b.entries_others) (each_append Q b.rest p.ends rest (weak p.ends p.ends_others))
 
-    front_has : (P : Act → Type 0) → ((act : Act) → IsOther act → P act) → P (LoadCell site) → EachStep (λ c. P c.act) front
-    unfolding front
+    front_has : (P : Act → Type 0) → ((act : Act) → IsOther act → P act) → P (LoadCell site) → EachStep (λ c. P c.act) prefix
+    unfolding prefix
     front_has P weaker of_cell =
         let Q : Asked → Type 0 = λ c. P c.act in
         let weak = λ (xs : List TrailStep). each_weaker Others Q (λ c. weaker c.act) xs in
@@ -241,14 +241,14 @@ module _ (k : Key) (site : ℕ) (h : Handle) (f : Fields) (trail : List TrailSte
         let goes = hit_goes k site h b.at_rest (unpacked_cell p.cell.step.found) expected target b.rest answer
         (subst (λ (x : Found). Runs k b.at_rest (resolving_by k site h (unpacked_cell p.cell.step.found) expected x) b.rest answer) hit b.rest_run) in
         let loads : InTurn trail (bucket_loads (bucket_of token h k.sizes.buckets) s.row s.handle.step.found token ++ (LoadRow s.row word.Target, target) ∷ []) = record {
-          before = front;
+          before = prefix;
           there = b.named ∷ s.handle ∷ s.its_token ∷ s.loaded ∷ [];
           after = b.rest ++ p.ends;
-          whole = at_bucket ∙ ap (λ (l : List TrailStep). front ++ b.named ∷ (l ++ (b.rest ++ p.ends))) s.whole;
+          whole = at_bucket ∙ ap (λ (l : List TrailStep). prefix ++ b.named ∷ (l ++ (b.rest ++ p.ends))) s.whole;
           same = λ c. (b.named_is c, s.names c) ∷ (s.handle_is c, s.handle.step.found) ∷ (s.token_is c, s.same_token c) ∷ (s.loaded_is c, s.target_is c) ∷ [];
         } in
-        let all : EachStep LoadsNoHandle (front ++ b.named ∷ (b.entries ++ (b.rest ++ p.ends))) =
-        each_append LoadsNoHandle front (b.named ∷ (b.entries ++ (b.rest ++ p.ends))) (front_has IsNoHandleLoad other_no_handle tt)
+        let all : EachStep LoadsNoHandle (prefix ++ b.named ∷ (b.entries ++ (b.rest ++ p.ends))) =
+        each_append LoadsNoHandle prefix (b.named ∷ (b.entries ++ (b.rest ++ p.ends))) (front_has IsNoHandleLoad other_no_handle tt)
         (step_has IsNoHandleLoad b.named (LoadBucket (bucket_of token h k.sizes.buckets)) b.named_is tt, after_bucket IsNoHandleLoad other_no_handle (each_weaker Others LoadsNoHandle (λ c. other_no_handle c.act) b.rest goes.others)) in
         subst (AnswerTells k site h trail) (sym goes.is) (
           record { row = s.row; packed = s.handle.step.found; handle = s.same; loads = loads },
@@ -266,9 +266,9 @@ module _ (k : Key) (site : ℕ) (h : Handle) (f : Fields) (trail : List TrailSte
         let first_found : three.u.step.found ≡ held.row + 1 = let e = three.first in λ c. (e c).1 in
         let second_found : three.v.step.found ≡ held.packed = let e = three.second in λ c. (e c).1 in
         let third_found : three.w.step.found ≡ token = let e = three.third in λ c. (e c).1 in
-        let place : front ++ b.named ∷ (b.entries ++ (b.rest ++ p.ends)) ≡ held.loads.before ++ three.u ∷ three.v ∷ three.w ∷ held.loads.after =
+        let place : prefix ++ b.named ∷ (b.entries ++ (b.rest ++ p.ends)) ≡ held.loads.before ++ three.u ∷ three.v ∷ three.w ∷ held.loads.after =
         sym at_bucket ∙ (held.loads.whole ∙ ap (λ (l : List TrailStep). held.loads.before ++ (l ++ held.loads.after)) three.whole) in
-        let there = only_there Q front b.named (b.entries ++ (b.rest ++ p.ends)) held.loads.before three.u (three.v ∷ three.w ∷ held.loads.after)
+        let there = only_there Q prefix b.named (b.entries ++ (b.rest ++ p.ends)) held.loads.before three.u (three.v ∷ three.w ∷ held.loads.after)
         (front_has IsNoBucketLoad other_no_bucket tt) (after_bucket IsNoBucketLoad other_no_bucket rest)
         (act_has IsNoBucketLoad three.u (LoadBucket held.bucket) first_is) place in
         let names : b.named.step.found ≡ held.row + 1 = ap (λ (x : TrailStep). x.step.found) there.0 ∙ first_found in
@@ -282,10 +282,10 @@ module _ (k : Key) (site : ℕ) (h : Handle) (f : Fields) (trail : List TrailSte
         let token = site_token k site in
         let s : EntryOther token h b.named.step.found b.entries g t = subst (EntryShape token h b.named.step.found b.entries) found (entry_shape token h k b.named.step.found b.at_entries b.entries b.found b.entries_run) in
         let loads : InTurn trail (bucket_loads (bucket_of token h k.sizes.buckets) s.row s.handle.step.found t) = record {
-          before = front;
+          before = prefix;
           there = b.named ∷ s.handle ∷ s.its_token ∷ [];
           after = b.rest ++ p.ends;
-          whole = at_bucket ∙ ap (λ (l : List TrailStep). front ++ b.named ∷ (l ++ (b.rest ++ p.ends))) s.whole;
+          whole = at_bucket ∙ ap (λ (l : List TrailStep). prefix ++ b.named ∷ (l ++ (b.rest ++ p.ends))) s.whole;
           same = λ c. (b.named_is c, s.names c) ∷ (s.handle_is c, s.handle.step.found) ∷ (s.token_is c, s.found_token c) ∷ [];
         } in
         (s.row, s.handle.step.found, s.its_handle, s.other, loads)
@@ -296,7 +296,7 @@ module _ (k : Key) (site : ℕ) (h : Handle) (f : Fields) (trail : List TrailSte
         let token = site_token k site in
         let s : EntryEmpty token h b.named.step.found b.entries = subst (EntryShape token h b.named.step.found b.entries) found (entry_shape token h k b.named.step.found b.at_entries b.entries b.found b.entries_run) in
         record {
-          before = front;
+          before = prefix;
           there = b.named ∷ [];
           after = b.entries ++ (b.rest ++ p.ends);
           whole = at_bucket;
@@ -316,10 +316,10 @@ module _ (k : Key) (site : ℕ) (h : Handle) (f : Fields) (trail : List TrailSte
         ⊎_elim
         (λ walked. subst (AnswerTells k site h trail) (sym walked.2) (shown, unheld))
         (λ gone.
-        let place : (front ++ b.named ∷ b.entries) ++ w.load ∷ (w.more ++ p.ends) ≡ trail =
-        sym (at_bucket ∙ (ap (λ (l : List TrailStep). front ++ b.named ∷ (b.entries ++ (l ++ p.ends))) w.whole ∙ sym (append_assoc front (b.named ∷ b.entries) (w.load ∷ (w.more ++ p.ends))))) in
+        let place : (prefix ++ b.named ∷ b.entries) ++ w.load ∷ (w.more ++ p.ends) ≡ trail =
+        sym (at_bucket ∙ (ap (λ (l : List TrailStep). prefix ++ b.named ∷ (b.entries ++ (l ++ p.ends))) w.whole ∙ sym (append_assoc prefix (b.named ∷ b.entries) (w.load ∷ (w.more ++ p.ends))))) in
         let shows : ShowsUnloaded h trail gone.0 =
-        subst (λ (l : List TrailStep). ShowsUnloaded h l gone.0) place (gone_shown h w.load (front ++ b.named ∷ b.entries) (w.more ++ p.ends) gone.0 w.load_is gone.1) in
+        subst (λ (l : List TrailStep). ShowsUnloaded h l gone.0) place (gone_shown h w.load (prefix ++ b.named ∷ b.entries) (w.more ++ p.ends) gone.0 w.load_is gone.1) in
         subst (AnswerTells k site h trail) (sym gone.2) (shows, unheld))
         w.by_type
 

@@ -59,8 +59,8 @@ module _ (k : Key) (site : ℕ) (h : Handle) where
   hit_shape (suc zero) f looks target runs = let e = nothing_run k f looks (stub_miss None) (stub_hit target) runs in absurd (let same = e.1 in cc)
   hit_shape (suc (suc row)) f looks target runs =
       let a = splits k f (reading_handle row) _ looks (stub_hit target) runs in
-      let handle = one_load k f (LoadRow row word.Handle) None unpacked_handle a.front a.answer tt a.first in
-      let g = after_steps k f a.front in
+      let handle = one_load k f (LoadRow row word.Handle) None unpacked_handle a.prefix a.answer tt a.first in
+      let g = after_steps k f a.prefix in
       ⊎_elim
       (λ same.
       let loaded = one_load k g (LoadRow row word.Target) None stub_hit a.rest (stub_hit target) tt same.1 in
@@ -76,7 +76,7 @@ module _ (k : Key) (site : ℕ) (h : Handle) where
         target_is = let e = loaded.answer in cc;
       })
       (λ other. let b = splits k g (patching k site h row) _ a.rest (stub_hit target) other.1 in
-      let e = nothing_run k (after_steps k g b.front) b.rest (stub_miss (Some a.answer)) (stub_hit target) b.second in
+      let e = nothing_run k (after_steps k g b.prefix) b.rest (stub_miss (Some a.answer)) (stub_hit target) b.second in
       let same = e.1 in absurd (cc))
       (branch k g (same_handle a.answer h) _ _ a.rest (stub_hit target) a.second)
 
@@ -87,14 +87,14 @@ module _ (k : Key) (site : ℕ) (h : Handle) where
   miss_shape (suc zero) f looks expected runs = let e = nothing_run k f looks (stub_miss None) (stub_miss expected) runs in let same = e.1 in inl (record { plain = inr refl; none = cc; whole = e.0 })
   miss_shape (suc (suc row)) f looks expected runs =
       let a = splits k f (reading_handle row) _ looks (stub_miss expected) runs in
-      let handle = one_load k f (LoadRow row word.Handle) None unpacked_handle a.front a.answer tt a.first in
-      let g = after_steps k f a.front in
+      let handle = one_load k f (LoadRow row word.Handle) None unpacked_handle a.prefix a.answer tt a.first in
+      let g = after_steps k f a.prefix in
       inr (⊎_elim
       (λ same.
       let loaded = one_load k g (LoadRow row word.Target) None stub_hit a.rest (stub_miss expected) tt same.1 in
       let e = loaded.answer in absurd (cc))
       (λ other. let b = splits k g (patching k site h row) _ a.rest (stub_miss expected) other.1 in
-      let e = nothing_run k (after_steps k g b.front) b.rest (stub_miss (Some a.answer)) (stub_miss expected) b.second in
+      let e = nothing_run k (after_steps k g b.prefix) b.rest (stub_miss (Some a.answer)) (stub_miss expected) b.second in
       let given = e.1 in
       let expects : expected ≡ Some a.answer = cc in
       record {
@@ -165,11 +165,11 @@ module _ (token : ℕ) (h : Handle) where
     entry_shape zero f entries what runs = let e = nothing_run k f entries Empty what runs in subst (EntryShape zero entries) e.1 (record { names = refl; whole = e.0 })
     entry_shape (suc row) f entries what runs =
         let a = splits k f (reading_handle row) _ entries what runs in
-        let handle = one_load k f (LoadRow row word.Handle) None unpacked_handle a.front a.answer tt a.first in
-        let f1 = after_steps k f a.front in
+        let handle = one_load k f (LoadRow row word.Handle) None unpacked_handle a.prefix a.answer tt a.first in
+        let f1 = after_steps k f a.prefix in
         let b = splits k f1 (reading_token row) _ a.rest what a.second in
-        let its_token = one_load k f1 (LoadRow row word.Token) None (λ x. x) b.front b.answer tt b.first in
-        let f2 = after_steps k f1 b.front in
+        let its_token = one_load k f1 (LoadRow row word.Token) None (λ x. x) b.prefix b.answer tt b.first in
+        let f2 = after_steps k f1 b.prefix in
         let whole : entries ≡ handle.step ∷ its_token.step ∷ b.rest = a.whole ∙ (ap (λ (l : List TrailStep). l ++ a.rest) handle.is ∙ ap (λ (l : List TrailStep). handle.step ∷ l) (b.whole ∙ ap (λ (l : List TrailStep). l ++ b.rest) its_token.is)) in
         ⊎_elim
         (λ same.
@@ -227,9 +227,9 @@ module _ (k : Key) (site : ℕ) (h : Handle) where
   unfolding resolving_by
   hit_goes f cell expected target rest answer runs =
       let a = splits k f (installing k site h cell target) _ rest answer runs in
-      let e = nothing_run k (after_steps k f a.front) a.rest (by_bucket target) answer a.second in
-      let whole : rest ≡ a.front = a.whole ∙ (ap (λ (l : List TrailStep). a.front ++ l) e.0 ∙ append-nil a.front) in
-      record { others = subst (EachStep Others) (sym whole) (makes_only Others k f (installing k site h cell target) a.front a.answer (installing_others k site h cell target).only a.first); is = sym e.1 }
+      let e = nothing_run k (after_steps k f a.prefix) a.rest (by_bucket target) answer a.second in
+      let whole : rest ≡ a.prefix = a.whole ∙ (ap (λ (l : List TrailStep). a.prefix ++ l) e.0 ∙ append-nil a.prefix) in
+      record { others = subst (EachStep Others) (sym whole) (makes_only Others k f (installing k site h cell target) a.prefix a.answer (installing_others k site h cell target).only a.first); is = sym e.1 }
 
   -- after the handle word
   walk_ends : (f : Fields) (cell : CellWord) (seen : Seen) (type : Result ℕ Unloaded) (rest : List TrailStep) (answer : Result Answer Unloaded)
@@ -241,12 +241,12 @@ module _ (k : Key) (site : ℕ) (h : Handle) where
       let token = site_token k site in
       let target = target_of k number token in
       let a = splits k f (caching k token h target) _ rest answer runs in
-      let g = after_steps k f a.front in
+      let g = after_steps k f a.prefix in
       let b = splits k g (installing k site h cell target) _ a.rest answer a.second in
-      let e = nothing_run k (after_steps k g b.front) b.rest (by_walk target seen) answer b.second in
-      let whole : rest ≡ a.front ++ b.front = a.whole ∙ ap (λ (l : List TrailStep). a.front ++ l) (b.whole ∙ (ap (λ (l : List TrailStep). b.front ++ l) e.0 ∙ append-nil b.front)) in (
-        subst (EachStep Others) (sym whole) (each_append Others a.front b.front (makes_only Others k f (caching k token h target) a.front a.answer (caching_others k token h target).only a.first)
-            (makes_only Others k g (installing k site h cell target) b.front b.answer (installing_others k site h cell target).only b.first)),
+      let e = nothing_run k (after_steps k g b.prefix) b.rest (by_walk target seen) answer b.second in
+      let whole : rest ≡ a.prefix ++ b.prefix = a.whole ∙ ap (λ (l : List TrailStep). a.prefix ++ l) (b.whole ∙ (ap (λ (l : List TrailStep). b.prefix ++ l) e.0 ∙ append-nil b.prefix)) in (
+        subst (EachStep Others) (sym whole) (each_append Others a.prefix b.prefix (makes_only Others k f (caching k token h target) a.prefix a.answer (caching_others k token h target).only a.first)
+            (makes_only Others k g (installing k site h cell target) b.prefix b.answer (installing_others k site h cell target).only b.first)),
         inl (number, refl, sym e.1),
       )
 
@@ -254,9 +254,9 @@ module _ (k : Key) (site : ℕ) (h : Handle) where
   unfolding walking
   walks f cell seen rest answer runs =
       let a = splits k f (typing h) (walking_by k site h cell seen) rest answer runs in
-      let load = one_load k f (LoadHandle h.row) None (λ word. type_by h (unpacked_handle_word word)) a.front a.answer tt a.first in
-      let e = walk_ends (after_steps k f a.front) cell seen (type_by h (unpacked_handle_word load.step.step.found)) a.rest answer
-      (subst (λ (t : Result ℕ Unloaded). Runs k (after_steps k f a.front) (walking_by k site h cell seen t) a.rest answer) (sym load.answer) a.second) in
+      let load = one_load k f (LoadHandle h.row) None (λ word. type_by h (unpacked_handle_word word)) a.prefix a.answer tt a.first in
+      let e = walk_ends (after_steps k f a.prefix) cell seen (type_by h (unpacked_handle_word load.step.step.found)) a.rest answer
+      (subst (λ (t : Result ℕ Unloaded). Runs k (after_steps k f a.prefix) (walking_by k site h cell seen t) a.rest answer) (sym load.answer) a.second) in
       record { load = load.step; more = a.rest; whole = a.whole ∙ ap (λ (l : List TrailStep). l ++ a.rest) load.is; load_is = load.act_is; others = e.0; by_type = e.1 }
 
   pub other_walks : (f : Fields) (cell : CellWord) (expected : Option Handle) (g : Handle) (t : ℕ) (rest : List TrailStep) (answer : Result Answer Unloaded)

@@ -39,14 +39,14 @@ module _ (k : Key) (source target : Handle) where
   unfolding finding_cast
   looks f xs found runs =
       let a = splits k f (ask (record { act = LoadRegion; begins = Some (Cast source target) }) (λ word. done word)) (λ region. probing source target region (home_of source target (region_size region)) 8 0 []) xs found runs in
-      let region = one_load k f LoadRegion (Some (Cast source target)) (λ word. word) a.front a.answer tt a.first in
+      let region = one_load k f LoadRegion (Some (Cast source target)) (λ word. word) a.prefix a.answer tt a.first in
       record {
         region = region.step;
         probes = a.rest;
-        at = after_steps k f a.front;
+        at = after_steps k f a.prefix;
         whole = a.whole ∙ ap (λ (l : List TrailStep). l ++ a.rest) region.is;
         region_is = region.act_is;
-        run = subst (λ (n : ℕ). Runs k (after_steps k f a.front) (probing source target n (home_of source target (region_size n)) 8 0 []) a.rest found) (sym region.answer) a.second;
+        run = subst (λ (n : ℕ). Runs k (after_steps k f a.prefix) (probing source target n (home_of source target (region_size n)) 8 0 []) a.rest found) (sym region.answer) a.second;
       }
 
   hit_shown : (f : Fields) (xs rest : List TrailStep) (answer : Bool) → Runs k f (finding_cast source target) xs (find.Hit answer) → ShowsHit source target (xs ++ rest) answer
@@ -130,7 +130,7 @@ module _ (k : Key) (source target : Handle) where
   target_missed (Err u) f m number x before xs answer is type runs = let e = nothing_run k f xs (Err u) answer runs in inr (u, sym e.1, inr (gone_shown target x before xs u is type))
   target_missed (Ok other) f m number x before xs answer is type runs =
       let a = splits k f (putting_cast k m source target _) _ xs answer runs in
-      let e = nothing_run k (after_steps k f a.front) a.rest _ answer a.second in
+      let e = nothing_run k (after_steps k f a.prefix) a.rest _ answer a.second in
       inl (_, sym e.1)
 
   source_missed : (type : Result ℕ Unloaded) (f : Fields) (m : Miss) (x : TrailStep) (before xs : List TrailStep) (answer : Result CastAnswer Unloaded) → x.step.act ≡ LoadHandle source.row
@@ -139,8 +139,8 @@ module _ (k : Key) (source target : Handle) where
   source_missed (Err u) f m x before xs answer is type runs = let e = nothing_run k f xs (Err u) answer runs in inr (u, sym e.1, inl (gone_shown source x before xs u is type))
   source_missed (Ok number) f m x before xs answer is type runs =
       let a = splits k f (typing target) (typing_target k source target m number) xs answer runs in
-      let load = one_load k f (LoadHandle target.row) None (λ word. type_by target (unpacked_handle_word word)) a.front a.answer tt a.first in
-      let t = target_missed a.answer (after_steps k f a.front) m number load.step (before ++ x ∷ []) a.rest answer load.act_is load.answer a.second in
+      let load = one_load k f (LoadHandle target.row) None (λ word. type_by target (unpacked_handle_word word)) a.prefix a.answer tt a.first in
+      let t = target_missed a.answer (after_steps k f a.prefix) m number load.step (before ++ x ∷ []) a.rest answer load.act_is load.answer a.second in
       let place : (before ++ x ∷ []) ++ load.step ∷ a.rest ≡ before ++ x ∷ xs =
       append_assoc before (x ∷ []) (load.step ∷ a.rest) ∙ ap (λ (l : List TrailStep). before ++ x ∷ l) (sym (a.whole ∙ ap (λ (l : List TrailStep). l ++ a.rest) load.is)) in
       subst (λ (l : List TrailStep). Missed l answer) place t
@@ -149,28 +149,28 @@ module _ (k : Key) (source target : Handle) where
   unfolding casting_by
   missed f m before xs answer runs =
       let a = splits k f (typing source) (typing_source k source target m) xs answer runs in
-      let load = one_load k f (LoadHandle source.row) None (λ word. type_by source (unpacked_handle_word word)) a.front a.answer tt a.first in
-      let t = source_missed a.answer (after_steps k f a.front) m load.step before a.rest answer load.act_is load.answer a.second in
+      let load = one_load k f (LoadHandle source.row) None (λ word. type_by source (unpacked_handle_word word)) a.prefix a.answer tt a.first in
+      let t = source_missed a.answer (after_steps k f a.prefix) m load.step before a.rest answer load.act_is load.answer a.second in
       subst (λ (l : List TrailStep). Missed l answer) (ap (λ (l : List TrailStep). before ++ l) (sym (a.whole ∙ ap (λ (l : List TrailStep). l ++ a.rest) load.is))) t
 
   -- ---- a cast
 
-  found_tells : (found : Find) (f g : Fields) (front rest : List TrailStep) (answer : Result CastAnswer Unloaded) → Runs k f (finding_cast source target) front found
-      → Runs k g (casting_by k source target found) rest answer → CastTells source target (front ++ rest) answer
+  found_tells : (found : Find) (f g : Fields) (prefix rest : List TrailStep) (answer : Result CastAnswer Unloaded) → Runs k f (finding_cast source target) prefix found
+      → Runs k g (casting_by k source target found) rest answer → CastTells source target (prefix ++ rest) answer
   unfolding casting_by
-  found_tells (find.Hit given) f g front rest answer first second =
+  found_tells (find.Hit given) f g prefix rest answer first second =
       let e = nothing_run k g rest _ answer second in
-      subst (CastTells source target (front ++ rest)) e.1 (hit_shown f front rest given first)
-  found_tells (find.Miss m) f g front rest answer first second =
+      subst (CastTells source target (prefix ++ rest)) e.1 (hit_shown f prefix rest given first)
+  found_tells (find.Miss m) f g prefix rest answer first second =
       let plain = makes_only NoVersion k g (casting_by k source target (find.Miss m)) rest answer (miss_plain m).only second in
-      let unhit = miss_unhit f front rest m first (plain_unhit source target rest plain) in
+      let unhit = miss_unhit f prefix rest m first (plain_unhit source target rest plain) in
       ⊎_elim
-      (λ walked. subst (CastTells source target (front ++ rest)) (sym walked.1) unhit)
-      (λ gone. subst (CastTells source target (front ++ rest)) (sym gone.1) (unhit, gone.2))
-      (missed g m front rest answer second)
+      (λ walked. subst (CastTells source target (prefix ++ rest)) (sym walked.1) unhit)
+      (λ gone. subst (CastTells source target (prefix ++ rest)) (sym gone.1) (unhit, gone.2))
+      (missed g m prefix rest answer second)
 
   pub cast_tells : (f : Fields) (trail : List TrailStep) (answer : Result CastAnswer Unloaded) → Runs k f (casting k source target) trail answer → CastTells source target trail answer
   unfolding casting
   cast_tells f trail answer runs =
       let a = splits k f (finding_cast source target) (casting_by k source target) trail answer runs in
-      subst (λ (l : List TrailStep). CastTells source target l answer) (sym a.whole) (found_tells a.answer f (after_steps k f a.front) a.front a.rest answer a.first a.second)
+      subst (λ (l : List TrailStep). CastTells source target l answer) (sym a.whole) (found_tells a.answer f (after_steps k f a.prefix) a.prefix a.rest answer a.first a.second)

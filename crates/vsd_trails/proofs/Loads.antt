@@ -89,8 +89,8 @@ each_there P [] y ys all = all.0
 each_there P (x ∷ xs) y ys all = each_there P xs y ys all.1
 
 -- a step that lacks the property that all others have
-pub only_there : (P : Asked → Type 0) (front : List TrailStep) (y : TrailStep) (rest before : List TrailStep) (x : TrailStep) (after : List TrailStep)
-    → EachStep P front → EachStep P rest → (P (asked_of x) → ⊥) → front ++ y ∷ rest ≡ before ++ x ∷ after → (y ≡ x) × (rest ≡ after)
+pub only_there : (P : Asked → Type 0) (prefix : List TrailStep) (y : TrailStep) (rest before : List TrailStep) (x : TrailStep) (after : List TrailStep)
+    → EachStep P prefix → EachStep P rest → (P (asked_of x) → ⊥) → prefix ++ y ∷ rest ≡ before ++ x ∷ after → (y ≡ x) × (rest ≡ after)
 only_there P [] y rest [] x after all more lacks same = let heads : y ≡ x = cc in let tails : rest ≡ after = cc in (heads, tails)
 only_there P [] y rest (b ∷ bs) x after all more lacks same =
     let tails : rest ≡ bs ++ x ∷ after = cc in

@@ -6,7 +6,7 @@ use Rattle.vsd_trails.specs.Logs.{Entry, Log, first_of, Adds, passes_over, finis
 use Rattle.vsd_trails.proofs.Runs.{one_answer, ends_once}
 
 -- the first step stays the first
-first_of-append : (front : List TrailStep) (z w : TrailStep) → first_of (front ++ z ∷ []) w ≡ first_of front z
+first_of-append : (prefix : List TrailStep) (z w : TrailStep) → first_of (prefix ++ z ∷ []) w ≡ first_of prefix z
 first_of-append [] z w = refl
 first_of-append (y ∷ ys) z w = refl
 
@@ -22,37 +22,37 @@ module _ (E : Type 0) (k : Key) (begun : Asked → Option (Program E)) where
   abbrev entry_of : E → List TrailStep → Fields → Entry E
   entry_of event trail f = record { event = event; trail = trail; fields = f }
 
-  -- the rest of a trail, of which the front is unfinished
+  -- the rest of a trail, of which the prefix is unfinished
   rest_of_trail : (p : Program E) (x : TrailStep) (event : E) (begins : begun (asked_of x) ≡ Some p)
-      (front : List TrailStep) (z : TrailStep) (zs : List TrailStep) (entries : List (Entry E)) (old : List TrailStep)
-      → first_of front z ≡ x → IsLog E k begun old (record { entries = entries; unfinished = front })
-      → Runs k (fields_at x) p (front ++ z ∷ zs) event
-      → IsLog E k begun (onto (z ∷ zs) old) (record { entries = entry_of event (front ++ z ∷ zs) (fields_at x) ∷ entries; unfinished = [] })
-  rest_of_trail p x event begins front z [] entries old first log runs = (
-    record { entries = entries; unfinished = front },
+      (prefix : List TrailStep) (z : TrailStep) (zs : List TrailStep) (entries : List (Entry E)) (old : List TrailStep)
+      → first_of prefix z ≡ x → IsLog E k begun old (record { entries = entries; unfinished = prefix })
+      → Runs k (fields_at x) p (prefix ++ z ∷ zs) event
+      → IsLog E k begun (onto (z ∷ zs) old) (record { entries = entry_of event (prefix ++ z ∷ zs) (fields_at x) ∷ entries; unfinished = [] })
+  rest_of_trail p x event begins prefix z [] entries old first log runs = (
+    record { entries = entries; unfinished = prefix },
     log,
     finishes (record {
       program = p;
       event = event;
       begins = subst (λ (y : TrailStep). begun (asked_of y) ≡ Some p) (sym first) begins;
-      whole = subst (λ (y : TrailStep). Runs k (fields_at y) p (front ++ z ∷ []) event) (sym first) runs;
-      added = ap (λ (y : TrailStep). record { entries = entry_of event (front ++ z ∷ []) (fields_at y) ∷ entries; unfinished = [] }) (sym first);
+      whole = subst (λ (y : TrailStep). Runs k (fields_at y) p (prefix ++ z ∷ []) event) (sym first) runs;
+      added = ap (λ (y : TrailStep). record { entries = entry_of event (prefix ++ z ∷ []) (fields_at y) ∷ entries; unfinished = [] }) (sym first);
     }),
   )
-  rest_of_trail p x event begins front z (w ∷ ws) entries old first log runs =
-      let whole : Runs k (fields_at x) p ((front ++ z ∷ []) ++ w ∷ ws) event = subst (λ (l : List TrailStep). Runs k (fields_at x) p l event) (sym (append_assoc front (z ∷ []) (w ∷ ws))) runs in
-      let longer : IsLog E k begun (z ∷ old) (record { entries = entries; unfinished = front ++ z ∷ [] }) = (
-        record { entries = entries; unfinished = front },
+  rest_of_trail p x event begins prefix z (w ∷ ws) entries old first log runs =
+      let whole : Runs k (fields_at x) p ((prefix ++ z ∷ []) ++ w ∷ ws) event = subst (λ (l : List TrailStep). Runs k (fields_at x) p l event) (sym (append_assoc prefix (z ∷ []) (w ∷ ws))) runs in
+      let longer : IsLog E k begun (z ∷ old) (record { entries = entries; unfinished = prefix ++ z ∷ [] }) = (
+        record { entries = entries; unfinished = prefix },
         log,
         goes_on (record {
           program = p;
           begins = subst (λ (y : TrailStep). begun (asked_of y) ≡ Some p) (sym first) begins;
-          unfinished = λ other early. ends_once k (fields_at x) p (front ++ z ∷ []) w ws other event (subst (λ (y : TrailStep). Runs k (fields_at y) p (front ++ z ∷ []) other) first early) whole;
+          unfinished = λ other early. ends_once k (fields_at x) p (prefix ++ z ∷ []) w ws other event (subst (λ (y : TrailStep). Runs k (fields_at y) p (prefix ++ z ∷ []) other) first early) whole;
           added = refl;
         }),
       ) in
-      let done = rest_of_trail p x event begins (front ++ z ∷ []) w ws entries (z ∷ old) (first_of-append front z w ∙ first) longer whole in
-      subst (λ (l : List TrailStep). IsLog E k begun (onto ws (w ∷ z ∷ old)) (record { entries = entry_of event l (fields_at x) ∷ entries; unfinished = [] })) (append_assoc front (z ∷ []) (w ∷ ws)) done
+      let done = rest_of_trail p x event begins (prefix ++ z ∷ []) w ws entries (z ∷ old) (first_of-append prefix z w ∙ first) longer whole in
+      subst (λ (l : List TrailStep). IsLog E k begun (onto ws (w ∷ z ∷ old)) (record { entries = entry_of event l (fields_at x) ∷ entries; unfinished = [] })) (append_assoc prefix (z ∷ []) (w ∷ ws)) done
 
   -- a whole trail of what its first step began adds one entry
   pub one_entry : (p : Program E) (x : TrailStep) (xs : List TrailStep) (event : E) (entries : List (Entry E)) (old : List TrailStep)

@@ -35,18 +35,18 @@ module _ (k : Key) (source target : Handle) where
   unfolding probing_row
   probe_of f region row xs found runs =
       let a = splits k f (loading (LoadVersion region row)) _ xs found runs in
-      let a' = one_load k f (LoadVersion region row) None _ a.front a.answer tt a.first in
-      let f1 = after_steps k f a.front in
+      let a' = one_load k f (LoadVersion region row) None _ a.prefix a.answer tt a.first in
+      let f1 = after_steps k f a.prefix in
       let b = splits k f1 (reading (LoadSource region row) unpacked_handle) _ a.rest found a.second in
-      let b' = one_load k f1 (LoadSource region row) None _ b.front b.answer tt b.first in
-      let f2 = after_steps k f1 b.front in
+      let b' = one_load k f1 (LoadSource region row) None _ b.prefix b.answer tt b.first in
+      let f2 = after_steps k f1 b.prefix in
       let c = splits k f2 (reading (LoadCast region row) unpacked_cast) _ b.rest found b.second in
-      let c' = one_load k f2 (LoadCast region row) None _ c.front c.answer tt c.first in
-      let f3 = after_steps k f2 c.front in
+      let c' = one_load k f2 (LoadCast region row) None _ c.prefix c.answer tt c.first in
+      let f3 = after_steps k f2 c.prefix in
       let d = splits k f3 (loading (LoadVersionAgain region row)) _ c.rest found c.second in
-      let d' = one_load k f3 (LoadVersionAgain region row) None _ d.front d.answer tt d.first in
-      let e = nothing_run k (after_steps k f3 d.front) d.rest _ found d.second in
-      let tail : c.rest ≡ d'.step ∷ [] = d.whole ∙ (ap (λ (l : List TrailStep). d.front ++ l) e.0 ∙ (append-nil d.front ∙ d'.is)) in
+      let d' = one_load k f3 (LoadVersionAgain region row) None _ d.prefix d.answer tt d.first in
+      let e = nothing_run k (after_steps k f3 d.prefix) d.rest _ found d.second in
+      let tail : c.rest ≡ d'.step ∷ [] = d.whole ∙ (ap (λ (l : List TrailStep). d.prefix ++ l) e.0 ∙ (append-nil d.prefix ∙ d'.is)) in
       let last : b.rest ≡ c'.step ∷ d'.step ∷ [] = c.whole ∙ (ap (λ (l : List TrailStep). l ++ c.rest) c'.is ∙ ap (λ (l : List TrailStep). c'.step ∷ l) tail) in
       let more : a.rest ≡ b'.step ∷ c'.step ∷ d'.step ∷ [] = b.whole ∙ (ap (λ (l : List TrailStep). l ++ b.rest) b'.is ∙ ap (λ (l : List TrailStep). b'.step ∷ l) last) in
       record {
@@ -101,7 +101,7 @@ four_loads (p ∷ q ∷ r ∷ s ∷ []) c d e g same = record { u = p; v = q; w 
 four_loads (p ∷ q ∷ r ∷ s ∷ t ∷ ts) c d e g same = absurd (cc)
 
 module _ (source target : Handle) where
-  -- the same of loads that begin after a front
+  -- the same of loads that begin after a prefix
   abbrev UnhitFrom : List TrailStep → List TrailStep → Type 0
   UnhitFrom before xs = (region row version packed word again : ℕ) (there after : List TrailStep) → xs ≡ before ++ (there ++ after) → map load_of there ≡ probe_loads region row version packed word again
       → is_hit source target version (unpacked_handle packed) (unpacked_cast word) again ≡ false
@@ -196,15 +196,15 @@ module _ (k : Key) (source target : Handle) (region home : ℕ) where
   miss_probed (suc n) i versions f xs m rest runs none =
       let row = probe_row region home i in
       let a = splits k f (probing_row source target region row) _ xs (find.Miss m) runs in
-      let g = after_steps k f a.front in
-      subst (HasNoHit source target) (sym (ap (λ (l : List TrailStep). l ++ rest) a.whole ∙ append_assoc a.front a.rest rest))
-      (by_probe g a.answer a.front a.rest (probe_of k source target f region row a.front a.answer a.first) a.second (λ v more. miss_probed n (i + 1) (versions ++ v ∷ []) g a.rest m rest more none))
+      let g = after_steps k f a.prefix in
+      subst (HasNoHit source target) (sym (ap (λ (l : List TrailStep). l ++ rest) a.whole ∙ append_assoc a.prefix a.rest rest))
+      (by_probe g a.answer a.prefix a.rest (probe_of k source target f region row a.prefix a.answer a.first) a.second (λ v more. miss_probed n (i + 1) (versions ++ v ∷ []) g a.rest m rest more none))
     where
-      by_probe : (g : Fields) (found : Probed) (front more : List TrailStep) → Probe source target region (probe_row region home i) front found
+      by_probe : (g : Fields) (found : Probed) (prefix more : List TrailStep) → Probe source target region (probe_row region home i) prefix found
           → Runs k g (unless_hit (λ version. probing source target region home n (i + 1) (versions ++ version ∷ [])) found) more (find.Miss m)
-          → ((v : ℕ) → Runs k g (probing source target region home n (i + 1) (versions ++ v ∷ [])) more (find.Miss m) → HasNoHit source target (more ++ rest)) → HasNoHit source target (front ++ (more ++ rest))
-      by_probe g (probe_hit answer) front more p r next = let e = nothing_run k g more (find.Hit answer) (find.Miss m) r in let clash = e.1 in absurd (cc)
-      by_probe g (probe_miss v) front more p r next = probe_unhit source target region (probe_row region home i) v front (more ++ rest) p (next v r)
+          → ((v : ℕ) → Runs k g (probing source target region home n (i + 1) (versions ++ v ∷ [])) more (find.Miss m) → HasNoHit source target (more ++ rest)) → HasNoHit source target (prefix ++ (more ++ rest))
+      by_probe g (probe_hit answer) prefix more p r next = let e = nothing_run k g more (find.Hit answer) (find.Miss m) r in let clash = e.1 in absurd (cc)
+      by_probe g (probe_miss v) prefix more p r next = probe_unhit source target region (probe_row region home i) v prefix (more ++ rest) p (next v r)
 
   pub hit_probed : (n i : ℕ) (versions : List ℕ) (f : Fields) (xs : List TrailStep) (answer : Bool)
       → Runs k f (probing source target region home n i versions) xs (find.Hit answer) → HitAt source target region home i n xs answer
@@ -213,18 +213,18 @@ module _ (k : Key) (source target : Handle) (region home : ℕ) where
   hit_probed (suc n) i versions f xs answer runs =
       let row = probe_row region home i in
       let a = splits k f (probing_row source target region row) _ xs (find.Hit answer) runs in
-      let g = after_steps k f a.front in
-      by_probe g a.answer a.front a.rest a.whole (probe_of k source target f region row a.front a.answer a.first) a.second (λ v more. hit_probed n (i + 1) (versions ++ v ∷ []) g a.rest answer more)
+      let g = after_steps k f a.prefix in
+      by_probe g a.answer a.prefix a.rest a.whole (probe_of k source target f region row a.prefix a.answer a.first) a.second (λ v more. hit_probed n (i + 1) (versions ++ v ∷ []) g a.rest answer more)
     where
-      by_probe : (g : Fields) (found : Probed) (front more : List TrailStep) → xs ≡ front ++ more → Probe source target region (probe_row region home i) front found
+      by_probe : (g : Fields) (found : Probed) (prefix more : List TrailStep) → xs ≡ prefix ++ more → Probe source target region (probe_row region home i) prefix found
           → Runs k g (unless_hit (λ version. probing source target region home n (i + 1) (versions ++ version ∷ [])) found) more (find.Hit answer)
           → ((v : ℕ) → Runs k g (probing source target region home n (i + 1) (versions ++ v ∷ [])) more (find.Hit answer) → HitAt source target region home (i + 1) n more answer)
           → HitAt source target region home i (suc n) xs answer
-      by_probe g (probe_hit given) front more whole p r next =
+      by_probe g (probe_hit given) prefix more whole p r next =
           let e = nothing_run k g more (find.Hit given) (find.Hit answer) r in
           let same : given ≡ answer = let hits = e.1 in cc in
-          record { i = i; low = omega arith; high = omega arith; before = []; after = more; block = front; whole = whole; probe = subst (λ (b : Bool). Probe source target region (probe_row region home i) front (probe_hit b)) same p }
-      by_probe g (probe_miss v) front more whole p r next =
+          record { i = i; low = omega arith; high = omega arith; before = []; after = more; block = prefix; whole = whole; probe = subst (λ (b : Bool). Probe source target region (probe_row region home i) prefix (probe_hit b)) same p }
+      by_probe g (probe_miss v) prefix more whole p r next =
           let t = next v r in
           let l = t.low in
           let h = t.high in
@@ -232,9 +232,9 @@ module _ (k : Key) (source target : Handle) (region home : ℕ) where
             i = t.i;
             low = omega arith;
             high = omega arith;
-            before = front ++ t.before;
+            before = prefix ++ t.before;
             after = t.after;
             block = t.block;
-            whole = whole ∙ (ap (λ (l : List TrailStep). front ++ l) t.whole ∙ sym (append_assoc front t.before (t.block ++ t.after)));
+            whole = whole ∙ (ap (λ (l : List TrailStep). prefix ++ l) t.whole ∙ sym (append_assoc prefix t.before (t.block ++ t.after)));
             probe = t.probe;
           }

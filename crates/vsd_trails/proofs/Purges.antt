@@ -42,8 +42,8 @@ module _ (k : Key) (h : Handle) where
   bucket_more f bucket None more rest p = tt
   bucket_more f bucket (Some row) more rest p = row_more f row (EmptyBucket bucket) more rest p
 
-  cell_front : (site : ℕ) (f : Fields) (front rest xs : List TrailStep) → xs ≡ front ++ rest → PurgesCell k h site f front → PurgesCell k h site f xs
-  cell_front site f front rest xs whole p = record {
+  cell_front : (site : ℕ) (f : Fields) (prefix rest xs : List TrailStep) → xs ≡ prefix ++ rest → PurgesCell k h site f prefix → PurgesCell k h site f xs
+  cell_front site f prefix rest xs whole p = record {
     before = p.before;
     load = p.load;
     more = p.more ++ rest;
@@ -52,18 +52,18 @@ module _ (k : Key) (h : Handle) where
     purged = cell_more (after_steps k f p.before) site (unpacked_cell p.load.step.found) p.more rest p.purged;
   }
 
-  cell_rest : (site : ℕ) (f : Fields) (front rest xs : List TrailStep) → xs ≡ front ++ rest → PurgesCell k h site (after_steps k f front) rest → PurgesCell k h site f xs
-  cell_rest site f front rest xs whole p = record {
-    before = front ++ p.before;
+  cell_rest : (site : ℕ) (f : Fields) (prefix rest xs : List TrailStep) → xs ≡ prefix ++ rest → PurgesCell k h site (after_steps k f prefix) rest → PurgesCell k h site f xs
+  cell_rest site f prefix rest xs whole p = record {
+    before = prefix ++ p.before;
     load = p.load;
     more = p.more;
-    whole = whole ∙ (ap (λ (l : List TrailStep). front ++ l) p.whole ∙ sym (append_assoc front p.before (p.load ∷ p.more)));
+    whole = whole ∙ (ap (λ (l : List TrailStep). prefix ++ l) p.whole ∙ sym (append_assoc prefix p.before (p.load ∷ p.more)));
     load_is = p.load_is;
-    purged = subst (λ (g : Fields). CellPurged k g h site (unpacked_cell p.load.step.found) p.more) (sym (after_steps-append k f front p.before)) p.purged;
+    purged = subst (λ (g : Fields). CellPurged k g h site (unpacked_cell p.load.step.found) p.more) (sym (after_steps-append k f prefix p.before)) p.purged;
   }
 
-  bucket_front : (bucket : ℕ) (f : Fields) (front rest xs : List TrailStep) → xs ≡ front ++ rest → PurgesBucket k h bucket f front → PurgesBucket k h bucket f xs
-  bucket_front bucket f front rest xs whole p = record {
+  bucket_front : (bucket : ℕ) (f : Fields) (prefix rest xs : List TrailStep) → xs ≡ prefix ++ rest → PurgesBucket k h bucket f prefix → PurgesBucket k h bucket f xs
+  bucket_front bucket f prefix rest xs whole p = record {
     before = p.before;
     load = p.load;
     more = p.more ++ rest;
@@ -72,14 +72,14 @@ module _ (k : Key) (h : Handle) where
     purged = bucket_more (after_steps k f p.before) bucket (unpacked_bucket p.load.step.found) p.more rest p.purged;
   }
 
-  bucket_rest : (bucket : ℕ) (f : Fields) (front rest xs : List TrailStep) → xs ≡ front ++ rest → PurgesBucket k h bucket (after_steps k f front) rest → PurgesBucket k h bucket f xs
-  bucket_rest bucket f front rest xs whole p = record {
-    before = front ++ p.before;
+  bucket_rest : (bucket : ℕ) (f : Fields) (prefix rest xs : List TrailStep) → xs ≡ prefix ++ rest → PurgesBucket k h bucket (after_steps k f prefix) rest → PurgesBucket k h bucket f xs
+  bucket_rest bucket f prefix rest xs whole p = record {
+    before = prefix ++ p.before;
     load = p.load;
     more = p.more;
-    whole = whole ∙ (ap (λ (l : List TrailStep). front ++ l) p.whole ∙ sym (append_assoc front p.before (p.load ∷ p.more)));
+    whole = whole ∙ (ap (λ (l : List TrailStep). prefix ++ l) p.whole ∙ sym (append_assoc prefix p.before (p.load ∷ p.more)));
     load_is = p.load_is;
-    purged = subst (λ (g : Fields). BucketPurged k g h bucket (unpacked_bucket p.load.step.found) p.more) (sym (after_steps-append k f front p.before)) p.purged;
+    purged = subst (λ (g : Fields). BucketPurged k g h bucket (unpacked_bucket p.load.step.found) p.more) (sym (after_steps-append k f prefix p.before)) p.purged;
   }
 
   -- ---- one row
@@ -93,7 +93,7 @@ module _ (k : Key) (h : Handle) where
       ⊎_elim
       (λ both.
       let a = splits k f (reading out read) g xs b both.1 in
-      let exchange = one_load k f out _ read a.front a.answer plain a.first in
+      let exchange = one_load k f out _ read a.prefix a.answer plain a.first in
       inr (inr (exchange.step, a.rest, a.whole ∙ ap (λ (l : List TrailStep). l ++ a.rest) exchange.is, exchange.act_is)))
       (λ left. ⊎_elim (λ other. inl (same_handle-false x h other)) (λ full. inr (inl full)) (and_false (same_handle x h) (has_room f.limbo) left.0))
       (branch k f (same_handle x h && has_room f.limbo) _ _ xs b runs)
@@ -103,8 +103,8 @@ module _ (k : Key) (h : Handle) where
       → RowPurged k f h row out xs
   row_purged f row out read g otherwise xs b plain runs =
       let a = splits k f (reading_handle row) (λ x. bind seeing_room (λ room. when same_handle x h && room then bind (reading out read) g else otherwise)) xs b runs in
-      let handle = one_load k f (LoadRow row word.Handle) _ unpacked_handle a.front a.answer tt a.first in
-      let f1 = after_steps k f a.front in
+      let handle = one_load k f (LoadRow row word.Handle) _ unpacked_handle a.prefix a.answer tt a.first in
+      let f1 = after_steps k f a.prefix in
       let same : f1 ≡ f = ap (after_steps k f) handle.is ∙ leaves_fields k f handle.step (LoadRow row word.Handle) handle.act_is refl in
       let whole : xs ≡ handle.step ∷ a.rest = a.whole ∙ ap (λ (l : List TrailStep). l ++ a.rest) handle.is in
       subst (RowPurged k f h row out) (sym whole) (
@@ -135,24 +135,24 @@ module _ (k : Key) (h : Handle) where
   cells_purged zero from site low high f xs u runs = absurd (omega arith)
   cells_purged (suc n) from site low high f xs u runs =
       let a = splits k f (reading_cell from) _ xs u runs in
-      let load = one_load k f (LoadCell from) _ unpacked_cell a.front a.answer tt a.first in
-      let g = after_steps k f a.front in
+      let load = one_load k f (LoadCell from) _ unpacked_cell a.prefix a.answer tt a.first in
+      let g = after_steps k f a.prefix in
       let same : g ≡ f = ap (after_steps k f) load.is ∙ leaves_fields k f load.step (LoadCell from) load.act_is refl in
       let c = splits k g (purging_cell h from a.answer) _ a.rest u a.second in
       ⊎_elim
-      (λ (later : from < site). cell_rest site f a.front a.rest xs a.whole (cell_rest site g c.front c.rest a.rest c.whole
-      (cells_purged n (from + 1) site (omega arith) (omega arith) (after_steps k g c.front) c.rest u c.second)))
+      (λ (later : from < site). cell_rest site f a.prefix a.rest xs a.whole (cell_rest site g c.prefix c.rest a.rest c.whole
+      (cells_purged n (from + 1) site (omega arith) (omega arith) (after_steps k g c.prefix) c.rest u c.second)))
       (λ (here : site ≤ from).
       let is : site ≡ from = omega arith in
-      let purged : CellPurged k f h from (unpacked_cell load.step.step.found) c.front =
-      subst (λ (w : CellWord). CellPurged k f h from w c.front) (sym load.answer) (subst (λ (x : Fields). CellPurged k x h from a.answer c.front) same (cell_purged g from a.answer c.front c.answer c.first)) in
+      let purged : CellPurged k f h from (unpacked_cell load.step.step.found) c.prefix =
+      subst (λ (w : CellWord). CellPurged k f h from w c.prefix) (sym load.answer) (subst (λ (x : Fields). CellPurged k x h from a.answer c.prefix) same (cell_purged g from a.answer c.prefix c.answer c.first)) in
       subst (λ (s : ℕ). PurgesCell k h s f xs) (sym is) (record {
         before = [];
         load = load.step;
-        more = c.front ++ c.rest;
+        more = c.prefix ++ c.rest;
         whole = a.whole ∙ (ap (λ (l : List TrailStep). l ++ a.rest) load.is ∙ ap (λ (l : List TrailStep). load.step ∷ l) c.whole);
         load_is = load.act_is;
-        purged = cell_more f from (unpacked_cell load.step.step.found) c.front c.rest purged;
+        purged = cell_more f from (unpacked_cell load.step.step.found) c.prefix c.rest purged;
       }))
       (cases_lt from site)
 
@@ -161,24 +161,24 @@ module _ (k : Key) (h : Handle) where
   buckets_purged zero from bucket low high f xs u runs = absurd (omega arith)
   buckets_purged (suc n) from bucket low high f xs u runs =
       let a = splits k f (looking from) _ xs u runs in
-      let load = one_load k f (LoadBucket from) _ unpacked_bucket a.front a.answer tt a.first in
-      let g = after_steps k f a.front in
+      let load = one_load k f (LoadBucket from) _ unpacked_bucket a.prefix a.answer tt a.first in
+      let g = after_steps k f a.prefix in
       let same : g ≡ f = ap (after_steps k f) load.is ∙ leaves_fields k f load.step (LoadBucket from) load.act_is refl in
       let c = splits k g (purging_bucket h from a.answer) _ a.rest u a.second in
       ⊎_elim
-      (λ (later : from < bucket). bucket_rest bucket f a.front a.rest xs a.whole (bucket_rest bucket g c.front c.rest a.rest c.whole
-      (buckets_purged n (from + 1) bucket (omega arith) (omega arith) (after_steps k g c.front) c.rest u c.second)))
+      (λ (later : from < bucket). bucket_rest bucket f a.prefix a.rest xs a.whole (bucket_rest bucket g c.prefix c.rest a.rest c.whole
+      (buckets_purged n (from + 1) bucket (omega arith) (omega arith) (after_steps k g c.prefix) c.rest u c.second)))
       (λ (here : bucket ≤ from).
       let is : bucket ≡ from = omega arith in
-      let purged : BucketPurged k f h from (unpacked_bucket load.step.step.found) c.front =
-      subst (λ (w : Option ℕ). BucketPurged k f h from w c.front) (sym load.answer) (subst (λ (x : Fields). BucketPurged k x h from a.answer c.front) same (bucket_purged g from a.answer c.front c.answer c.first)) in
+      let purged : BucketPurged k f h from (unpacked_bucket load.step.step.found) c.prefix =
+      subst (λ (w : Option ℕ). BucketPurged k f h from w c.prefix) (sym load.answer) (subst (λ (x : Fields). BucketPurged k x h from a.answer c.prefix) same (bucket_purged g from a.answer c.prefix c.answer c.first)) in
       subst (λ (s : ℕ). PurgesBucket k h s f xs) (sym is) (record {
         before = [];
         load = load.step;
-        more = c.front ++ c.rest;
+        more = c.prefix ++ c.rest;
         whole = a.whole ∙ (ap (λ (l : List TrailStep). l ++ a.rest) load.is ∙ ap (λ (l : List TrailStep). load.step ∷ l) c.whole);
         load_is = load.act_is;
-        purged = bucket_more f from (unpacked_bucket load.step.step.found) c.front c.rest purged;
+        purged = bucket_more f from (unpacked_bucket load.step.step.found) c.prefix c.rest purged;
       }))
       (cases_lt from bucket)
 
@@ -188,22 +188,22 @@ module _ (k : Key) (h : Handle) where
   unfolding unloading
   unload_purges_cell f trail u site small runs =
       let a = splits k f (pinning (Unload h)) _ trail u runs in
-      let f1 = after_steps k f a.front in
+      let f1 = after_steps k f a.prefix in
       let b = splits k f1 (unbinding h) _ a.rest u a.second in
-      let f2 = after_steps k f1 b.front in
+      let f2 = after_steps k f1 b.prefix in
       let c = splits k f2 (purging_cells h k.sizes.sites 0) _ b.rest u b.second in
-      cell_rest site f a.front a.rest trail a.whole (cell_rest site f1 b.front b.rest a.rest b.whole (cell_front site f2 c.front c.rest b.rest c.whole
-      (cells_purged k.sizes.sites 0 site (omega arith) (omega arith) f2 c.front c.answer c.first)))
+      cell_rest site f a.prefix a.rest trail a.whole (cell_rest site f1 b.prefix b.rest a.rest b.whole (cell_front site f2 c.prefix c.rest b.rest c.whole
+      (cells_purged k.sizes.sites 0 site (omega arith) (omega arith) f2 c.prefix c.answer c.first)))
 
   pub unload_purges_bucket : (f : Fields) (trail : List TrailStep) (u : Unit {0}) (bucket : ℕ) → bucket < k.sizes.buckets → Runs k f (unloading k h) trail u → PurgesBucket k h bucket f trail
   unfolding unloading
   unload_purges_bucket f trail u bucket small runs =
       let a = splits k f (pinning (Unload h)) _ trail u runs in
-      let f1 = after_steps k f a.front in
+      let f1 = after_steps k f a.prefix in
       let b = splits k f1 (unbinding h) _ a.rest u a.second in
-      let f2 = after_steps k f1 b.front in
+      let f2 = after_steps k f1 b.prefix in
       let c = splits k f2 (purging_cells h k.sizes.sites 0) _ b.rest u b.second in
-      let f3 = after_steps k f2 c.front in
+      let f3 = after_steps k f2 c.prefix in
       let d = splits k f3 (purging_buckets h k.sizes.buckets 0) _ c.rest u c.second in
-      bucket_rest bucket f a.front a.rest trail a.whole (bucket_rest bucket f1 b.front b.rest a.rest b.whole (bucket_rest bucket f2 c.front c.rest b.rest c.whole (bucket_front bucket f3 d.front d.rest c.rest d.whole
-      (buckets_purged k.sizes.buckets 0 bucket (omega arith) (omega arith) f3 d.front d.answer d.first))))
+      bucket_rest bucket f a.prefix a.rest trail a.whole (bucket_rest bucket f1 b.prefix b.rest a.rest b.whole (bucket_rest bucket f2 c.prefix c.rest b.rest c.whole (bucket_front bucket f3 d.prefix d.rest c.rest d.whole
+      (buckets_purged k.sizes.buckets 0 bucket (omega arith) (omega arith) f3 d.prefix d.answer d.first))))

@@ -37,14 +37,14 @@ maps k f (ask c p) g (x ∷ xs) a r = (r.0, r.1, maps k (after_step k f x) (p x.
 
 pub splits : {A B : Type 0} (k : Key) (f : Fields) (p : Program A) (g : A → Program B) (zs : List TrailStep) (b : B) → Runs k f (bind p g) zs b → TwoRuns A B k f p g zs b
 unfolding bind
-splits k f (done a) g zs b r = record { front = []; rest = zs; answer = a; whole = refl; first = refl; second = r }
+splits k f (done a) g zs b r = record { prefix = []; rest = zs; answer = a; whole = refl; first = refl; second = r }
 splits k f (look p) g zs b r =
     let t = splits k f (p f) g zs b r in
-    record { front = t.front; rest = t.rest; answer = t.answer; whole = t.whole; first = t.first; second = t.second }
+    record { prefix = t.prefix; rest = t.rest; answer = t.answer; whole = t.whole; first = t.first; second = t.second }
 splits k f (ask c p) g [] b r = absurd r
 splits k f (ask c p) g (x ∷ xs) b r =
     let t = splits k (after_step k f x) (p x.step.found) g xs b r.2 in
-    record { front = x ∷ t.front; rest = t.rest; answer = t.answer; whole = ap (λ (l : List TrailStep). x ∷ l) t.whole; first = (r.0, r.1, t.first); second = t.second }
+    record { prefix = x ∷ t.prefix; rest = t.rest; answer = t.answer; whole = ap (λ (l : List TrailStep). x ∷ l) t.whole; first = (r.0, r.1, t.first); second = t.second }
 
 pub is_bounded : {A : Type 0} (n : ℕ) (k : Key) (f : Fields) (p : Program A) (xs : List TrailStep) (a : A) → AtMost n p → Runs k f p xs a → length xs ≤ n
 is_bounded n k f (done c) [] a few r = omega arith

@@ -71,7 +71,7 @@ pub record SweepsAtEnd (k : Key) (f : Fields) (trail : List TrailStep) : Type 0 
   pub sweep : List TrailStep
   pub whole : trail ≡ before ++ unpin ∷ sweep
   pub unpin_is : unpin.step.act ≡ Unpin
-  pub ends : (x : RetiredRow) (xs : List RetiredRow) → (after_steps k f before).limbo ≡ x ∷ xs → (front : List TrailStep) × (last : TrailStep) × (sweep ≡ front ++ last ∷ []) × EndsSweep x last
+  pub ends : (x : RetiredRow) (xs : List RetiredRow) → (after_steps k f before).limbo ≡ x ∷ xs → (prefix : List TrailStep) × (last : TrailStep) × (sweep ≡ prefix ++ last ∷ []) × EndsSweep x last
 
 -- ---- what an unload tries
 

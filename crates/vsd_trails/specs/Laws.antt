@@ -19,12 +19,12 @@ Joins A B p g = (k : Key) (f : Fields) (xs ys : List TrailStep) (a : A) (b : B) 
 
 -- a run in two parts
 pub record TwoRuns (A B : Type 0) (k : Key) (f : Fields) (p : Program A) (g : A → Program B) (zs : List TrailStep) (b : B) : Type 0 where
-  pub front : List TrailStep
+  pub prefix : List TrailStep
   pub rest : List TrailStep
   pub answer : A
-  pub whole : zs ≡ front ++ rest
-  pub first : Runs k f p front answer
-  pub second : Runs k (after_steps k f front) (g answer) rest b
+  pub whole : zs ≡ prefix ++ rest
+  pub first : Runs k f p prefix answer
+  pub second : Runs k (after_steps k f prefix) (g answer) rest b
 
 -- Each run of both is a run of the one and then of the other.
 abbrev pub Splits : (A B : Type 0) → Program A → (A → Program B) → Type 0

@@ -32,7 +32,7 @@ pub fn has_one_answer<T: Trail>()
     ensures { HasOneAnswer T.Value T.program }
 {}
 
-/// No proper front of a whole run is a whole run.
+/// No proper prefix of a whole run is a whole run.
 pub fn ends_once<T: Trail>()
     ensures { EndsOnce T.Value T.program }
 {}

@@ -5,7 +5,7 @@
 //! A **program** (`specs/Programs.antt`) asks for one step, looks at the word that the step found,
 //! and goes on; it may look at the caller's cursor and limbo, and it ends in an answer. The list of
 //! steps that one run makes is its **trail**. Since the words that were found and the fields at the
-//! beginning decide everything, a trail has one answer, and no proper front of it is a trail.
+//! beginning decide everything, a trail has one answer, and no proper prefix of it is a trail.
 //!
 //! ```text
 //!   call     pin, load the cell

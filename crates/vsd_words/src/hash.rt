@@ -17,8 +17,8 @@ fn mix(x: u64) -> u32
     (x.wrapping_mul(GOLDEN) >> 32) as u32
 }
 
-/// The bucket of the resolve cache in which a call through a token on a handle is looked for,
-/// among `buckets` of them, a power of two from 1 to 1,024.
+/// The bucket of the resolve cache in which a call through a token on a handle is looked for: a
+/// number below `buckets`, the count of them, which is a power of two from 1 to 1,024.
 #[inline]
 pub fn bucket_of(token: u16, h: Handle, buckets: u32) -> u32
     requires handle { HandleInRange h }
@@ -29,8 +29,8 @@ pub fn bucket_of(token: u16, h: Handle, buckets: u32) -> u32
     mix(h.pack() + (1 << 48) * u64::from(token)) & (buckets - 1)
 }
 
-/// The row of a cast region at which the probes for a cast begin. A region has 128 rows, or
-/// twice as many up to five times over.
+/// The row of a cast region at which the probes for a cast begin: a number below `size`, the
+/// region's count of rows, which is 128, or twice as many up to five times over.
 #[inline]
 pub fn home_of(source: Handle, target: Handle, size: u32) -> u32
     requires source { HandleInRange source }
