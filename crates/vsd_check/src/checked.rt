@@ -62,7 +62,7 @@ impl Checked {
         &self.decls
     }
 
-    /// The place of the declaration with this name among the declarations. Takes no memory.
+    /// The place, from 0, of the declaration whose name has this number, among the declarations. Takes no memory.
     pub fn declaration(&self, name: u16) -> u16
         requires { place_of (decls_of self.now).list name < length (decls_of self.now).list }
         ensures place { result ≡ place_of (decls_of self.now).list name }
@@ -73,8 +73,8 @@ impl Checked {
         self.places.as_slice()[name as usize]
     }
 
-    /// The depth of the declaration at this place: one more than the greatest of its base and its interfaces, where a
-    /// built-in type has 0. Takes no memory.
+    /// The depth of the declaration at this place, from 0: one more than the greatest of its base and its interfaces,
+    /// where a built-in type has 0. Takes no memory.
     pub fn depth(&self, decl: u16) -> u16
         requires { decl < length (decls_of self.now).list }
         ensures depth { result ≡ slice_index_or (depths_of self.now) decl 0 }
@@ -85,7 +85,8 @@ impl Checked {
     }
 
     /// The root of a virtual method: the declaration and the place of the method that started the slot that it fills
-    /// (ECMA-335, II.9.9, II.10.3.1). Takes no memory.
+    /// (ECMA-335, II.9.9, II.10.3.1). Declarations, and the methods of one, are told by their places, from 0. Takes no
+    /// memory.
     pub fn root(&self, decl: u16, method: u16) -> (u16, u16)
         // The declaration is there, and has a virtual method at this place.
         requires { (m : Method) × IsMethod (decls_of self.now).list (record { decl = decl; method = method }) m }
@@ -99,8 +100,8 @@ impl Checked {
     }
 
     /// What an override implements: the interface's method and the declaration's method that implements it (ECMA-335,
-    /// II.10.3.2, II.12.2). The override is told by the declaration and its place among that declaration's overrides.
-    /// Takes no memory.
+    /// II.10.3.2, II.12.2). The override is told by the declaration's place and its own among that declaration's
+    /// overrides, both from 0. Takes no memory.
     pub fn target(&self, decl: u16, place: u16) -> Target
         // The declaration is there, and has an override at this place.
         requires { (x : Decl) × ((slice_get (decls_of self.now).list decl ≡ Some x) × (place < length x.overrides)) }

@@ -62,7 +62,8 @@ fn examine(alloc: Global, decls: &Decls) -> Result<Found, CheckError>
 
 /// Whether declarations are lawful, and what lawful ones tell.
 ///
-/// A refusal is the first of what shows, in the order that [`CheckError`] tells. It lets go of the declarations.
+/// A refusal is the first of what shows, in the order that [`CheckError`] tells, and `Memory` is want of memory. Either
+/// lets go of the declarations.
 pub fn check(alloc: Global, decls: Decls) -> Result<Checked, CheckError>
     // Numbers are in range, lists within the limits, and types of a form that the grammar has at their place.
     requires { AreWellFormed decls }

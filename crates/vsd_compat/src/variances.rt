@@ -33,7 +33,7 @@ impl Variances {
     ghost use Rattle.vsd_compat.specs.Variances.{AreVariancesOf};
 
     /// Works out which types are compatible with which (ECMA-335, I.8.7): a matrix of bits is filled by the rules until
-    /// they give nothing more.
+    /// they give nothing more. The error is want of memory.
     pub fn compute(alloc: Global, closed: &Closed) -> Result<Variances, AllocError>
         ensures { IfOk result (AreVariancesOf closed.now) }
     {

@@ -195,6 +195,8 @@ fn class_from(
 }
 
 /// A class or an interface, whose `.class` is at hand.
+///
+/// A refusal is the first that its production comes to, and want of memory is `Stop::Memory`.
 #[tactic(auto, unfolding(crate::specs::Classes::class_))]
 pub fn class(alloc: Global, cursor: &mut Cursor<'_>) -> Result<Decl, Stop>
     ensures { Reads (run _ spec.class_ cursor.old) result cursor.new }

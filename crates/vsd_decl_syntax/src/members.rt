@@ -62,7 +62,7 @@ fn kind_of(class: TokenClass) -> Kind
 }
 
 /// An item that is passed over: up to the next directive outside of its braces, to the brace that closes what is around
-/// it, or to `%%`.
+/// it, or to `%%`. The end, and `%%` within its braces, are refused as unexpected.
 #[tactic(auto, unfolding(crate::specs::Members::passed))]
 pub fn passed(cursor: &mut Cursor<'_>) -> Result<(), Stop>
     ensures { Reads (run _ spec.passed cursor.old) result cursor.new }

@@ -23,7 +23,7 @@ use vsd_text::Token;
 ///
 /// A refusal is the first that the productions come to: of two at one token the lower number counts, save that
 /// `Unsupported` counts before `Unexpected`, and of two texts of `TooMany` that of names comes last and that of name
-/// bytes last but it.
+/// bytes last but it. `Memory` is want of memory.
 pub fn read_decls(alloc: Global, text: &[u8], tokens: &[Token]) -> Result<Decls, DeclError>
     requires within { All (LiesWithin text.now) tokens.now }
     requires few { length tokens.now ≤ most_tokens }

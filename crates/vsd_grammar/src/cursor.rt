@@ -95,7 +95,7 @@ impl<'a> Cursor<'a> {
         }
     }
 
-    /// The index of the token at hand, from 0, or the number of tokens at the end.
+    /// The index of the token at hand, from 0, or the number of tokens at the end; at most 4,194,304.
     #[tactic(auto, using(crate::proofs::Ends::index_inside))]
     pub fn index(&self) -> usize
         ensures value { result ≡ self.now.at }
@@ -105,7 +105,7 @@ impl<'a> Cursor<'a> {
         self.at
     }
 
-    /// How many tokens are left.
+    /// How many tokens are left, with the one at hand, at most 4,194,304.
     #[tactic(auto, using(crate::proofs::Ends::left_from))]
     pub fn left(&self) -> usize
         ensures value { result ≡ left self.now }
@@ -252,10 +252,10 @@ impl<'a> Cursor<'a> {
         Ok(())
     }
 
-    /// The number of a name, from 0, which is a new one if the name has none so far.
+    /// The number of a name, from 0 to 2,047, which is a new one if the name has none so far.
     ///
-    /// A new name that would be the 2,049th is refused, at the token at hand, as one too many. A refusal and want of
-    /// memory leave the names as they were.
+    /// A new name that would be the 2,049th is refused, at the token at hand, as one too many. Want of memory is
+    /// `Stop::Memory`.
     pub fn number(&mut self, name: &[u8]) -> Result<u16, Stop>
         ensures { Reads (run _ (number name.now) self.old) result self.new }
     {

@@ -23,7 +23,10 @@ pub fn is_name(class: TokenClass) -> bool
     }
 }
 
-/// The bytes of the name at hand, which is not passed over.
+/// The bytes of the name at hand, 1 to 255, which is not passed over.
+///
+/// A token that is no name, and a name of no bytes, are refused as unexpected, and a name of more than 255 bytes as too
+/// many bytes. Takes no memory.
 #[tactic(auto, unfolding(crate::specs::Productions::spelled_name))]
 pub fn spelled_name<'a>(cursor: &Cursor<'a>) -> Result<&'a [u8], Stop>
     ensures reads { ReadsBy (λ b. b.now) (run _ spelled_name cursor.now) result cursor.now }
@@ -42,7 +45,7 @@ pub fn spelled_name<'a>(cursor: &Cursor<'a>) -> Result<&'a [u8], Stop>
     Ok(bytes)
 }
 
-/// A name, which lasts as long as the text.
+/// A name, which lasts as long as the text. It is refused as `spelled_name` refuses. Takes no memory.
 #[tactic(auto, unfolding(crate::specs::Productions::name))]
 pub fn name<'a>(cursor: &mut Cursor<'a>) -> Result<&'a [u8], Stop>
     ensures reads { ReadsBy (λ b. b.now) (run _ name cursor.old) result cursor.new }
@@ -53,7 +56,9 @@ pub fn name<'a>(cursor: &mut Cursor<'a>) -> Result<&'a [u8], Stop>
     Ok(bytes)
 }
 
-/// The number of a name.
+/// The number of a name, from 0 to 2,047.
+///
+/// It is refused as `spelled_name` refuses, and then as [`Cursor::number`] refuses. Want of memory is `Stop::Memory`.
 #[tactic(auto, unfolding(crate::specs::Productions::numbered_name))]
 pub fn numbered_name(cursor: &mut Cursor<'_>) -> Result<u16, Stop>
     ensures { Reads (run _ numbered_name cursor.old) result cursor.new }
@@ -64,7 +69,8 @@ pub fn numbered_name(cursor: &mut Cursor<'_>) -> Result<u16, Stop>
     Ok(number)
 }
 
-/// Words that do not begin with a point, as many as there are.
+/// Words that do not begin with a point, as many as there are. Any other token ends them, and so does the end: none is
+/// refused. Takes no memory.
 #[tactic(auto, unfolding(crate::specs::Productions::plain_words))]
 pub fn plain_words(cursor: &mut Cursor<'_>) -> Result<(), Stop>
     ensures reads { Reads (run _ plain_words cursor.old) result cursor.new }

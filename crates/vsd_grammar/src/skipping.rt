@@ -15,7 +15,7 @@ use crate::turn::Turn;
 /// Passes over tokens with their braces in pairs, up to a brace that closes what is around them or to a token outside
 /// of their braces at which to stop.
 ///
-/// `%%` where it is no token at which to stop, and the end, are refused as unexpected.
+/// `%%` where it is no token at which to stop, and the end, are refused as unexpected. Takes no memory.
 pub fn skip<W>(cursor: &mut Cursor<'_>, stops: W) -> Result<u32, Stop>
 where
     W: Fn(TokenClass) -> bool,

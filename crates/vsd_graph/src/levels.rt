@@ -71,6 +71,7 @@ fn collect(alloc: Global, marks: &[Mark]) -> Result<Vec<u16>, AllocError>
 }
 
 /// The level of each place, one more than the greatest of those that one step leads to; none where a walk comes back.
+/// The error is want of memory.
 pub fn place_levels(alloc: Global, graph: &[Items<u16>]) -> Result<Option<Vec<u16>>, AllocError>
     requires closed { IsClosed graph.now }
     requires small { length graph.now < 2 ^ 16 }

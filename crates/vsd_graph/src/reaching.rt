@@ -33,7 +33,7 @@ fn follow(graph: &[Items<u16>], at: usize, seen: &mut Vec<bool>)
     }
 }
 
-/// Whether a walk of at least one step leads from the place back to it.
+/// Whether a walk of at least one step leads from the place back to it. The error is want of memory.
 pub fn reaches_itself(alloc: Global, graph: &[Items<u16>], at: usize) -> Result<bool, AllocError>
     requires within { at < length graph.now }
     requires closed { IsClosed graph.now }

@@ -15,7 +15,7 @@ use vsd_lawful::Scope;
 use vsd_least::{earlier, shown};
 
 /// The depth of each declaration: one more than the greatest of its base and its interfaces, where a built-in type has 0.
-/// None where a walk upward comes back to its declaration.
+/// None where a walk upward comes back to its declaration. The error is want of memory.
 pub fn depths_of(alloc: Global, scope: &Scope) -> Result<Option<Vec<u16>>, AllocError>
     requires { length scope.now.list.now < 2 ^ 16 }
     ensures { IfOk result (λ found. MatchOption found (IsCyclic (graph_of scope.now.list.now above))
@@ -68,7 +68,7 @@ fn search(alloc: Global, scope: &Scope) -> Result<Option<u32>, AllocError>
 }
 
 /// The first line of a class that reaches itself by bases, or of an interface that does by the interfaces that it requires.
-/// Where depths are there, none does.
+/// Where depths are there, none does. The error is want of memory.
 pub fn first_cycle(
     alloc: Global,
     scope: &Scope,

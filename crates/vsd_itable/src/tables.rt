@@ -62,7 +62,8 @@ impl Tables {
     /// Classes are taken by number. The slots of a class are the methods of the different interfaces of it and of the classes
     /// above it. `TooManySlots` comes for the first class with which they add up to more than 262,144. `MissingImplementation`
     /// comes for the first class that isn't abstract and has a method without implementation: the first by interface, nearest
-    /// class first, and then by its place. For one class `TooManySlots` comes first. A refusal drops what was given.
+    /// class first, and then by its place. For one class `TooManySlots` comes first. `Memory` is want of memory. An error
+    /// drops what was given.
     pub fn build(
         alloc: Global,
         checked: Checked,
@@ -105,7 +106,8 @@ impl Tables {
         })
     }
 
-    /// What a call through token `k` gets on an object of type `t` (ECMA-335, II.12.2). One look-up. Takes no memory.
+    /// What a call through token `k` gets on an object of type `t` (ECMA-335, II.12.2), which are told by their numbers,
+    /// from 0. One look-up. Takes no memory.
     pub fn select(&self, t: u16, k: u16) -> Target
         requires listed { t < types_count self.now }
         requires token { k < tokens_count self.now }
@@ -118,7 +120,8 @@ impl Tables {
         }
     }
 
-    /// Whether a value of type `t` may stand where `u` is asked for (I.8.7). One look-up. Takes no memory.
+    /// Whether a value of type `t` may stand where `u` is asked for (ECMA-335, I.8.7), which are told by their numbers,
+    /// from 0. One look-up. Takes no memory.
     pub fn compat(&self, t: u16, u: u16) -> bool
         requires first { t < types_count self.now }
         requires second { u < types_count self.now }
@@ -143,8 +146,8 @@ impl Tables {
         &self.checked.decls().names
     }
 
-    /// The text of the method of a number: the closed class that declares it, `::`, its name, and `#k` where it is the k-th
-    /// virtual method of that name in its declaration and k is at least 2. The error is want of memory.
+    /// The text of the method of a number, from 0: the closed class that declares it, `::`, its name, and `#k` where it is
+    /// the k-th virtual method of that name in its declaration and k is at least 2. The error is want of memory.
     pub fn method_text(&self, alloc: Global, n: u32) -> Result<Vec<u8>, AllocError>
         requires { n < length self.now.methods }
         ensures { IfOk result (λ text. text.items ≡ numbered_text self.now n) }
@@ -159,7 +162,7 @@ impl Tables {
         )
     }
 
-    /// The text of the slot of token `k`, made alike from the closed interface. The error is want of memory.
+    /// The text of the slot of token `k`, from 0, made alike from the closed interface. The error is want of memory.
     pub fn token_text(&self, alloc: Global, k: u16) -> Result<Vec<u8>, AllocError>
         requires { k < tokens_count self.now }
         ensures { IfOk result (λ text. text.items ≡ slot_text self.now k) }

@@ -7,14 +7,14 @@ use vsd_ast::{Host, Site};
 use vsd_terms::Terms;
 
 impl<'a> Ground<'a> {
-    /// The number of the site of this name.
+    /// The number, from 0, of the first site of this name, where it is below 65,536.
     pub fn site(&self, name: &[u8]) -> Option<u16>
         ensures { result ≡ spec.site_number self.now.sites.now name.now }
     {
         numbered(site_in(self.sites, name))
     }
 
-    /// The number of the host of this name.
+    /// The number, from 0, of the first host of this name, where it is below 65,536.
     pub fn host(&self, name: &[u8]) -> Option<u16>
         ensures { result ≡ spec.host_number self.now.hosts.now name.now }
     {
@@ -51,7 +51,7 @@ pub fn numbered(place: Option<usize>) -> Option<u16>
     }
 }
 
-/// The place of the site of this name.
+/// The place, from 0, of the first site of this name.
 #[tactic(auto, unfolding(crate::specs::Setting::place_from))]
 pub fn site_in(sites: &[Site], name: &[u8]) -> Option<usize>
     ensures { result ≡ spec.site_in sites.now name.now }
@@ -64,7 +64,7 @@ pub fn site_in(sites: &[Site], name: &[u8]) -> Option<usize>
     None
 }
 
-/// The place of the host of this name.
+/// The place, from 0, of the first host of this name.
 #[tactic(auto, unfolding(crate::specs::Setting::place_from))]
 pub fn host_in(hosts: &[Host], name: &[u8]) -> Option<usize>
     ensures { result ≡ spec.host_in hosts.now name.now }

@@ -19,6 +19,9 @@ use vsd_type_syntax::written;
 pub type Step = (Reading, Item);
 
 /// `=`, a term and `;`.
+///
+/// Any other token in place of the signs is refused as unexpected, and the term as [`written`] refuses. Want of memory is
+/// `Stop::Memory`.
 #[tactic(auto, unfolding(crate::specs::Productions::assigned))]
 pub fn assigned(alloc: Global, cursor: &mut Cursor<'_>, types: &Types<'_>) -> Result<Term, Stop>
     ensures { Reads (run _ (spec.assigned types.now.decls.now) cursor.old) result cursor.new }

@@ -56,7 +56,7 @@ pub enum Role {
     Cast,
 }
 
-/// A refusal of the token at hand for this cause, if there is one.
+/// A refusal of the token at hand for this cause, if there is one. Takes no memory.
 pub fn show(cursor: &Cursor<'_>, cause: Option<Cause>) -> Result<(), Stop>
     ensures reads { Reads (run _ (spec.shows cause) cursor.now) result cursor.now }
     ensures sure { result ≢ Err Stop.Memory }

@@ -240,6 +240,9 @@ fn all(
 }
 
 /// `lane`, which is at hand, and its operations in braces, after these roots.
+///
+/// A refusal is the first that its production comes to, where a repeat's body is read again for each of its rounds. Want
+/// of memory is `Stop::Memory`.
 #[tactic(auto, unfolding(crate::specs::Productions::lane))]
 pub fn lane(
     alloc: Global,

@@ -32,7 +32,7 @@ impl<'a> Types<'a> {
         Types { decls, places }
     }
 
-    /// The first declaration with this name.
+    /// The first declaration whose name has this number, from 0.
     pub fn declared(&self, name: u16) -> Option<&'a Decl>
         ensures { option_copied result ≡ declared self.now.decls.now.list name }
     {

@@ -58,7 +58,7 @@ impl Variables {
 
     /// Gives a name a number, unless it has one.
     ///
-    /// More than 4,294,967,295 names find no memory.
+    /// The error is want of memory: more than 4,294,967,295 names find none.
     pub fn add(&mut self, name: &[u8]) -> Result<(), AllocError>
         ensures { OnOk result (self.new ≡ added self.old name.now) }
     {
@@ -81,7 +81,7 @@ impl Variables {
         Ok(())
     }
 
-    /// The names, in the order of their numbers.
+    /// The names, in the order of their numbers. The error is want of memory.
     pub fn names(&self, alloc: Global) -> Result<Items<Bytes>, AllocError>
         ensures { IfOk result (λ names. names ≡ self.now) }
     {

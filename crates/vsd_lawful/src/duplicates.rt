@@ -67,7 +67,7 @@ fn is_twice(scope: &Scope, names: &Names, place: usize, decl: &Decl) -> bool
 
 /// The first line at which the declaration shows what stands twice: its own, where its name is there already or is that
 /// of a built-in class or two of its parameters have one name; a method's, where an earlier method has the same name and
-/// signature.
+/// signature. The error is want of memory.
 pub fn twice(
     alloc: Global,
     scope: &Scope,

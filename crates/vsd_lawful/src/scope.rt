@@ -51,7 +51,7 @@ fn there(place: u16, count: usize) -> Option<u16>
     }
 }
 
-/// The table by name, for each name that was seen.
+/// The table by name, for each name that was seen. The error is want of memory.
 pub fn index(alloc: Global, decls: &Decls) -> Result<Vec<u16>, AllocError>
     requires { AreWellFormed decls.now }
     ensures count { IfOk result (λ places. length places.items ≡ length decls.now.names) }

@@ -16,7 +16,7 @@ pub struct Layers {
 }
 
 impl Layers {
-    /// How many depths there are: more than the greatest.
+    /// More than the greatest depth: from this depth on there are no declarations.
     pub fn count(&self) -> usize
         ensures { (depths : List ℕ) → AreLayers depths self.now.first.items self.now.next.items →
             (n : ℕ) → n < length depths → slice_index depths n < result }
@@ -24,7 +24,7 @@ impl Layers {
         self.first.len()
     }
 
-    /// The first declaration of this depth.
+    /// The number of the first declaration of this depth, if it has one.
     pub fn first(&self, depth: usize) -> Option<u16>
         ensures { (depths : List ℕ) → AreLayers depths self.now.first.items self.now.next.items →
             IsNextAt depths depth 0 result }
@@ -35,7 +35,7 @@ impl Layers {
         }
     }
 
-    /// The next declaration of the depth of this one.
+    /// The number of the next declaration of the depth of this one, if there is one.
     pub fn after(&self, at: u16) -> Option<u16>
         ensures { (depths : List ℕ) → AreLayers depths self.now.first.items self.now.next.items →
             at < length depths → IsNextAt depths (slice_index depths at) (at + 1) result }
@@ -58,7 +58,8 @@ fn deepest(depths: &[u16]) -> u16
     most
 }
 
-/// The declarations of these depths, depth by depth.
+/// The declarations of these depths, depth by depth. They are numbered by their places, from 0, and are at most 1,024.
+/// The error is want of memory.
 pub fn by_depth(alloc: Global, depths: &[u16]) -> Result<Layers, AllocError>
     requires few { length depths.now ≤ 1024 }
     ensures { IfOk result (λ made. AreLayers depths.now made.first.items made.next.items) }

@@ -12,7 +12,7 @@ use vsd_ast::Decl;
 use vsd_terms::Term;
 
 /// The numbers of the declarations by the numbers of their names, of which there are `names`. A name that no declaration
-/// has gets the number of declarations.
+/// has gets the number of declarations. The error is want of memory.
 pub fn places(alloc: Global, names: usize, decls: &[Decl]) -> Result<Vec<u16>, AllocError>
     requires few { length decls.now ≤ 1024 }
     requires named { All (λ (x : Decl). x.name < names) decls.now }
@@ -63,6 +63,7 @@ pub fn extended(h: &Hierarchy<'_>, at: usize) -> Option<u16>
 }
 
 /// The numbers of the declarations from `from` upward, each the one that the one before extends (ECMA-335, II.10.1.2).
+/// The error is want of memory.
 pub fn chain(alloc: Global, h: &Hierarchy<'_>, from: usize) -> Result<Vec<usize>, AllocError>
     requires settled { IsSettled h.now.decls.now h.now.places.now h.now.depths.now }
     requires within { from < length h.now.decls.now }

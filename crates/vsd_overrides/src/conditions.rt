@@ -39,7 +39,7 @@ struct Key<'a> {
 }
 
 /// The least line of an override of the declaration that implements the same method of the same owner as an earlier one.
-/// `row` has what each of its overrides implements.
+/// `row` has what each of its overrides implements. The error is want of memory.
 pub fn repeated_override(
     alloc: Global,
     decls: &[Decl],

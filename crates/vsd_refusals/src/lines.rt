@@ -12,7 +12,7 @@ use vsd_text::LexError;
 use vsd_types::CloseError;
 
 /// The line for a refusal: `refused`, the line of the text or 0 where none is meant, the refusal's number, and what is
-/// wrong. Want of memory is no refusal of a text, and has none.
+/// wrong. Want of memory is no refusal of a text, and has no line. The error is want of memory, here or in the refusal.
 pub fn refusal_line(alloc: Global, refusal: &Refusal) -> Result<Vec<u8>, AllocError>
     ensures { IfOk result (λ line. refusal_line refusal.now ≡ Some line.items) }
 {

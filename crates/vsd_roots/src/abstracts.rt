@@ -164,7 +164,7 @@ fn mark_depth(
 /// For each declaration whether one of its slots, its own or inherited, has an abstract body (ECMA-335, II.15.4.2.4).
 ///
 /// A slot's body in a class is the method with the slot's root in the nearest class from that one upward, the later one
-/// of two in one class.
+/// of two in one class. The error is want of memory.
 pub fn abstract_bodies(
     alloc: Global,
     h: &Hierarchy<'_>,

@@ -202,7 +202,8 @@ fn overridden_of(
 /// What each virtual method overrides, if anything, in a row for each declaration (ECMA-335, II.9.9, II.10.3.1).
 ///
 /// A method without `newslot` overrides the first method of its name and signature, that is virtual and not private, of
-/// the nearest class above that has one. Signatures are compared in the parameters of the lower class.
+/// the nearest class above that has one. Signatures are compared in the parameters of the lower class. The error is want
+/// of memory.
 pub fn overridden(
     alloc: Global,
     h: &Hierarchy<'_>,

@@ -80,7 +80,7 @@ fn roots_depth(
 }
 
 /// The root of each virtual method, in a row for each declaration: the method that started the slot that it fills, which
-/// is reached from one overridden method to the next (ECMA-335, II.9.9, II.10.3.1).
+/// is reached from one overridden method to the next (ECMA-335, II.9.9, II.10.3.1). The error is want of memory.
 pub fn roots(
     alloc: Global,
     h: &Hierarchy<'_>,

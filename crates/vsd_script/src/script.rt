@@ -110,8 +110,8 @@ fn read(alloc: Global, text: &[u8], tokens: &[Token], decls: &Decls) -> Result<S
 ///
 /// The declarations are those of the same text, and the tokens are all of its tokens. A refusal is the first that the
 /// tokens show in the order in which they are read, where a repeat's body is read again for each of its rounds; of two at
-/// one token it is the one of the lower number. The language is this project's own; its types are those of ECMA-335,
-/// II.7.1.
+/// one token it is the one of the lower number. `Memory` is want of memory. The language is this project's own; its types
+/// are those of ECMA-335, II.7.1.
 pub fn read_script(
     alloc: Global,
     text: &[u8],

@@ -68,7 +68,8 @@ fn read(
 
 /// The term of a script that begins at the token of this index, from 0, or at the end.
 ///
-/// A `[` after the term ends it; otherwise it is refused as a script's terms are, with 20, 21, 28 and 29.
+/// A `[` after the term ends it; otherwise it is refused as a script's terms are, with 20, 21, 28 and 29. `Memory` is want
+/// of memory.
 pub fn read_term(
     alloc: Global,
     text: &[u8],

@@ -39,7 +39,7 @@ fn mark(alloc: Global, earlier: u16) -> Result<Vec<u8>, AllocError>
     Ok(format!(in alloc; "#{}", earlier + 1)?.into_bytes())
 }
 
-/// The text of a closed type.
+/// The text of a closed type, which is told by its number. The error is want of memory.
 pub fn type_text(
     alloc: Global,
     checked: &Checked,
@@ -55,7 +55,7 @@ pub fn type_text(
 }
 
 /// The name of a method of a closed type, and `#k` where it is the k-th virtual method of that name in its declaration and k
-/// is at least 2.
+/// is at least 2. The type is told by its number and the method by its place, both from 0. The error is want of memory.
 pub fn name_text(
     alloc: Global,
     checked: &Checked,
@@ -79,7 +79,8 @@ pub fn name_text(
 }
 
 /// The text of a method of a closed type: the type, `::`, the method's name, and `#k` where it is the k-th virtual method
-/// of that name in its declaration and k is at least 2.
+/// of that name in its declaration and k is at least 2. The type is told by its number and the method by its place, both
+/// from 0. The error is want of memory.
 pub fn method_text(
     alloc: Global,
     checked: &Checked,

@@ -49,7 +49,7 @@ impl Names {
         }
     }
 
-    /// How many names there are.
+    /// How many names there are, at most 2,048.
     pub fn len(&self) -> usize
         ensures count { result ≡ length self.now }
         ensures names { AreNames self.now }
@@ -64,7 +64,7 @@ impl Names {
         self.set.is_empty()
     }
 
-    /// The number of `name`, where it is there.
+    /// The number of `name`, from 0 to 2,047, where it is there.
     pub fn find(&self, name: &[u8]) -> Option<u16>
         ensures found { IfSome result (λ n. slice_get self.now n ≡ Some name.now) }
         ensures present { IsSome result ↔ Contains self.now name.now }
@@ -76,7 +76,7 @@ impl Names {
         }
     }
 
-    /// The name of this number.
+    /// The name of this number, which is from 0 to one less than the number of names.
     pub fn name(&self, number: u16) -> &[u8]
         requires { number < length self.now }
         ensures name { slice_get self.now number ≡ Some result.now }
@@ -85,9 +85,10 @@ impl Names {
         self.set.as_slice()[number as usize].as_slice()
     }
 
-    /// The number of `name`, which is the next one where the name is new.
+    /// The number of `name`, from 0 to 2,047, which is the next one where the name is new.
     ///
-    /// A refusal, for a new name alone, leaves the names as they were.
+    /// `Full` comes where a new name would be the 2,049th, and `Memory` is want of memory for a new name. Both leave the
+    /// names as they were.
     pub fn number(&mut self, name: &[u8]) -> Result<u16, NamesError>
         // The name is at the place of the number, and every name keeps its place.
         ensures adds { OnOk result (AddsName self.old self.new name.now) }

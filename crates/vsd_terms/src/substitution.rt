@@ -24,7 +24,7 @@ pub fn parameters(t: &Term) -> u16
     }
 }
 
-/// A term that equals `t`.
+/// A term that equals `t`. The error is want of memory.
 pub fn copy(alloc: Global, t: &Term) -> Result<Term, AllocError>
     ensures { IfOk result (λ made. made ≡ t.now) }
 {
@@ -46,7 +46,8 @@ pub fn copy(alloc: Global, t: &Term) -> Result<Term, AllocError>
 
 /// `t` with the n-th of `args` in place of parameter n, everywhere.
 ///
-/// The arguments may have parameters of their own, which stay as they are (ECMA-335, II.9.2).
+/// The arguments may have parameters of their own, which stay as they are (ECMA-335, II.9.2). The error is want of
+/// memory.
 pub fn subst(alloc: Global, t: &Term, args: &Terms) -> Result<Term, AllocError>
     requires { parameters_of t.now ≤ length args.now }
     ensures { IfOk result (λ made. made ≡ subst_of args.now t.now) }

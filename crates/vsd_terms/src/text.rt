@@ -51,7 +51,8 @@ pub fn names_needed(t: &Term) -> u32
 
 /// The text of a closed term.
 ///
-/// That is its name and then, where it has arguments, `<`, their texts with commas between, and `>`.
+/// That is its name and then, where it has arguments, `<`, their texts with commas between, and `>`. The error is want of
+/// memory.
 pub fn print(alloc: Global, t: &Term, names: &Names) -> Result<Vec<u8>, AllocError>
     requires closed { parameters_of t.now ≡ 0 }
     requires named { names_of t.now ≤ length names.now }

@@ -91,7 +91,7 @@ fn push_piece(tokens: &mut Vec<Token>, at: usize, line: u32, piece: Piece) -> Re
 ///
 /// `TooLong` comes where the text has more than `TEXT_LIMIT` bytes, before all other refusals. Of those
 /// the first one in the text comes: for an open comment or quote at its opening, for a bad byte at that
-/// byte, which in a Quoted token comes before the open quote.
+/// byte, which in a Quoted token comes before the open quote. `Memory` is want of memory.
 pub fn lex(alloc: Global, text: &[u8]) -> Result<Vec<Token>, LexError>
     ensures exact { Gives (λ tokens. tokens.items) refusal_of result (tokens_of text.now) }
     ensures inside { IfOk result (λ tokens. All (LiesWithin text.now) tokens.items) }

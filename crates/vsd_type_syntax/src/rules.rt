@@ -11,6 +11,8 @@ pub trait TypeRules {
     ghost rules: { Self → Rules };
 
     /// The number of a name that is not built in, has 1 to 255 bytes and stands after no scope; the name is at hand.
+    ///
+    /// A name without a number is refused at the token at hand, as the rules say. Want of memory is `Stop::Memory`.
     fn resolve(&self, cursor: &mut Cursor<'_>, name: &[u8]) -> Result<u16, Stop>
         ensures { Reads (run _ (count _ ((rules self.now).resolve name.now)) cursor.old) result cursor.new };
 

@@ -325,7 +325,7 @@ fn type_of<R: TypeRules>(
 ///
 /// It has at most 16 levels and 64 nodes. A refusal is unexpected at the first token that can't go on, or shows a form
 /// that isn't supported; the `<` that opens a 17th level, and the token that names a 65th node, are refused as too
-/// deep. A name, a parameter and a number of arguments are refused as the rules say.
+/// deep. A name, a parameter and a number of arguments are refused as the rules say. Want of memory is `Stop::Memory`.
 #[tactic(auto, unfolding(crate::specs::Types::written))]
 pub fn written<R: TypeRules>(
     alloc: Global,
@@ -339,7 +339,8 @@ pub fn written<R: TypeRules>(
     type_of(alloc, cursor, rules, MOST_BELOW, only_named)
 }
 
-/// A written term whose first token, a `[`, was passed over already; it is refused as `written` refuses.
+/// A written term whose first token, a `[`, was passed over already; it is refused as `written` refuses. Want of memory
+/// is `Stop::Memory`.
 #[tactic(auto, unfolding(crate::specs::Types::written_rest))]
 pub fn written_rest<R: TypeRules>(
     alloc: Global,
@@ -384,7 +385,8 @@ fn outermost_arguments<R: TypeRules>(
     arguments(alloc, cursor, rules, &argument, index, number)
 }
 
-/// A written term after which a `[` may stand, which ends it; otherwise it is refused as `written` refuses.
+/// A written term after which a `[` may stand, which ends it; otherwise it is refused as `written` refuses. Want of
+/// memory is `Stop::Memory`.
 #[tactic(auto, unfolding(crate::specs::Types::written_open))]
 pub fn written_open<R: TypeRules>(
     alloc: Global,

@@ -52,7 +52,7 @@ impl Closed {
         self.entries.len() as u16
     }
 
-    /// The type of this number.
+    /// The type of this number, from 0.
     pub fn term(&self, t: u16) -> &Term
         requires { t < length self.now.types }
         ensures { result.now ≡ type_at self.now.types t }
@@ -60,7 +60,7 @@ impl Closed {
         &self.types.as_slice()[usize::from(t)]
     }
 
-    /// The number of a type, where it is listed.
+    /// The number of a type, from 0 to 1,023, where it is listed.
     pub fn number(&self, term: &Term) -> Option<u16>
         ensures found { IfSome result (λ t. slice_get self.now.types t ≡ Some term.now) }
         ensures present { IsSome result ↔ Contains self.now.types term.now }

@@ -171,6 +171,7 @@ fn follow(
 /// its arguments.
 ///
 /// A refusal is that of the first type to be added that shows one. `TooDeep` comes before `TooManyTypes` for one type.
+/// `Memory` is want of memory.
 pub fn close(alloc: Global, checked: &Checked, roots: &[Term]) -> Result<Closed, CloseError>
     requires { All (IsClosedType (decls_of checked.now).list) roots.now }
     ensures over { IfOk result (λ made. made.decls ≡ decls_of checked.now) }

@@ -6,7 +6,8 @@ ghost use Rattle.vsd_ways.specs.Order.{IsOrder, IsOrderTo};
 use std::alloc::{AllocError, Global};
 use vsd_layers::{Layers, by_depth};
 
-/// The numbers of the declarations of these depths, each after those that are less deep.
+/// The numbers of the declarations of these depths, each after those that are less deep. They are numbered by their
+/// places, from 0, and are at most 1,024. The error is want of memory.
 pub fn upward_order(alloc: Global, depths: &[u16]) -> Result<Vec<u16>, AllocError>
     requires few { length depths.now ≤ 1024 }
     ensures { IfOk result (λ order. IsOrder (length depths.now) depths.now order.items) }
