@@ -10,7 +10,9 @@
 //!
 //! [`layout`] makes a table with one [`Seated`] per caller. Each method of a seat is one step: one
 //! load, store, swap, exchange, or fetch and add of one word. All steps stand in one order. A step
-//! takes no memory and waits for nobody. It ensures
+//! takes no memory and waits for nobody. Callers, sites, tokens, rows, buckets and regions are numbered
+//! from 0, each below the count of them that [`Sizes`] has; handle rows are the hosts', and then 64 of each
+//! caller. It ensures
 //!
 //! - that the table is the same, and that the seat's view is exactly this one afterwards: so callers
 //!   compose steps by their views, and no step stays uncounted;
