@@ -36,7 +36,7 @@ impl Variables {
         }
     }
 
-    /// The number of a name, where it is there.
+    /// The number of a name, from 0, where it is there.
     pub fn find(&self, name: &[u8]) -> Option<u32>
         ensures { result ≡ position (bytes_eq name.now) self.now }
     {
@@ -46,7 +46,7 @@ impl Variables {
         }
     }
 
-    /// The number of a name, which is the next one where the name is new.
+    /// The number of a name, from 0, which is the next one where the name is new.
     pub fn number(&self, name: &[u8]) -> u32
         ensures { result ≡ number_in self.now name.now }
     {

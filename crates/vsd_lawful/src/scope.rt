@@ -19,7 +19,7 @@ pub struct Scope<'a> {
 }
 
 impl<'a> Scope<'a> {
-    /// The place of the first declaration with this name.
+    /// The place, from 0, of the first declaration whose name has this number, from 0.
     pub fn place(&self, name: u16) -> Option<u16>
         ensures { result ≡ place_in self.now.list.now name }
     {
@@ -29,7 +29,7 @@ impl<'a> Scope<'a> {
         there(self.places[name as usize], self.list.len())
     }
 
-    /// The first declaration with this name.
+    /// The first declaration whose name has this number, from 0.
     pub fn declared(&self, name: u16) -> Option<&'a Decl>
         ensures { option_copied result ≡ declared self.now.list.now name }
     {

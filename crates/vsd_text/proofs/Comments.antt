@@ -22,7 +22,7 @@ unfolding comment_len
 comment_len-nil = refl
 
 no_close-tail : (b : ℕ) (bs : List ℕ) → HasNoClose (b ∷ bs) → HasNoClose bs
-no_close-tail b bs none front back is = none (b ∷ front) back (ap (λ xs. b ∷ xs) is)
+no_close-tail b bs none prefix back is = none (b ∷ prefix) back (ap (λ xs. b ∷ xs) is)
 
 begins_with_is : (c : ℕ) (bs : List ℕ) → begins_with c bs ≡ true → (more : List ℕ) × (bs ≡ c ∷ more)
 begins_with_is c [] is = absurd (false≢true is)
@@ -38,11 +38,11 @@ closes_is b bs is =
 
 no_close-nil : HasNoClose []
 no_close-nil [] back is = cc
-no_close-nil (x ∷ front) back is = cc
+no_close-nil (x ∷ prefix) back is = cc
 
 no_close-star : HasNoClose (42 ∷ [])
 no_close-star [] back is = cc
-no_close-star (x ∷ front) back is = let tail : [] ≡ front ++ 42 ∷ 47 ∷ back = cc in no_close-nil front back tail
+no_close-star (x ∷ prefix) back is = let tail : [] ≡ prefix ++ 42 ∷ 47 ∷ back = cc in no_close-nil prefix back tail
 
 -- no `*/` comes with one byte more, unless it stands at the front
 no_close-cons : (b : ℕ) (bs : List ℕ) → closes b bs ≡ false → HasNoClose bs → HasNoClose (b ∷ bs)
@@ -51,7 +51,7 @@ no_close-cons b bs unclosed none [] back is =
     let rest : bs ≡ 47 ∷ back = cc in
     let here : closes b bs ≡ true = rw (first, rest) refl in
     true≢false (sym here ∙ unclosed)
-no_close-cons b bs unclosed none (x ∷ front) back is = let tail : bs ≡ front ++ 42 ∷ 47 ∷ back = cc in none front back tail
+no_close-cons b bs unclosed none (x ∷ prefix) back is = let tail : bs ≡ prefix ++ 42 ∷ 47 ∷ back = cc in none prefix back tail
 
 -- the front of bytes decides whether `*/` stands there
 closes-append : (b : ℕ) (bs more : List ℕ) (c : ℕ) → closes b (bs ++ c ∷ more) ≡ closes b (bs ++ c ∷ [])

@@ -9,7 +9,7 @@ use Rattle.vsd_text.specs.Spelling.{IsContent, EndsToken, IsLongest, HasNoClose,
 use Rattle.vsd_text.specs.declared.tokens.TokenKind.TheVariants.{Quoted, Text}
 use Rattle.vsd_text.specs.declared.tokens.LexError.{LexError}
 use Rattle.vsd_text.specs.declared.tokens.LexError.TheVariants.{BadByte, OpenComment, OpenQuote, TooLong, Memory}
-use Rattle.vsd_text.proofs.Fronts.{not_empty}
+use Rattle.vsd_text.proofs.Prefixes.{not_empty}
 use Rattle.vsd_text.proofs.LineFeeds.{line_feeds-append, line_feeds-cons, quoted_has_none}
 use Rattle.vsd_text.proofs.Parts.{quoted_part, text_part}
 use Rattle.vsd_text.proofs.Quotes.{content-plain}
@@ -59,11 +59,11 @@ parts_push (part ∷ parts) last are is =
     (subst (IsPart part) (sym (append-nil (text_of (parts ++ last ∷ [])) ∙ text_of-push parts last)) are.0, parts_push parts last are.1 is)
 
 -- parts, and some of the bytes of one more
-can_begin_inside : (parts : List Part) (rest : List ℕ) (last : Part) (front more : List ℕ) → AreParts parts rest → BeginsAs (bytes_of last) rest → bytes_of last ≡ front ++ more → IsPart last [] → CanBegin (text_of parts ++ front)
-can_begin_inside parts rest last front more are begins is last_is = record {
+can_begin_inside : (parts : List Part) (rest : List ℕ) (last : Part) (prefix more : List ℕ) → AreParts parts rest → BeginsAs (bytes_of last) rest → bytes_of last ≡ prefix ++ more → IsPart last [] → CanBegin (text_of parts ++ prefix)
+can_begin_inside parts rest last prefix more are begins is last_is = record {
   more = more;
   parts = parts ++ last ∷ [];
-  is_text = append_assoc (text_of parts) front more ∙ ap (λ xs. text_of parts ++ xs) (sym is) ∙ sym (text_of-push parts last);
+  is_text = append_assoc (text_of parts) prefix more ∙ ap (λ xs. text_of parts ++ xs) (sym is) ∙ sym (text_of-push parts last);
   are_parts = parts_push parts last (parts_again parts (bytes_of last) rest begins are) last_is;
 }
 
@@ -79,40 +79,40 @@ can_begin_whole : (bs : List ℕ) (parts : List Part) (rest : List ℕ) → bs �
 can_begin_whole bs parts rest is are = record { more = []; parts = parts; is_text = append-nil bs ∙ is; are_parts = parts_again parts [] rest tt are }
 
 -- what can begin can with fewer bytes too
-can_begin_front : (front others : List ℕ) → CanBegin (front ++ others) → CanBegin front
-can_begin_front front others can = record { more = others ++ can.more; parts = can.parts; is_text = sym (append_assoc front others can.more) ∙ can.is_text; are_parts = can.are_parts }
+can_begin_prefix : (prefix others : List ℕ) → CanBegin (prefix ++ others) → CanBegin prefix
+can_begin_prefix prefix others can = record { more = others ++ can.more; parts = can.parts; is_text = sym (append_assoc prefix others can.more) ∙ can.is_text; are_parts = can.are_parts }
 
 can_begin_before : (bs : List ℕ) (m n : ℕ) → m ≤ n → CanBegin (take n bs) → CanBegin (take m bs)
 can_begin_before bs m n le can =
     let split : take n bs ≡ take m bs ++ drop m (take n bs) = sym (take-append-drop m (take n bs)) ∙ ap (λ xs. xs ++ drop m (take n bs)) (take-take m n bs le) in
-    can_begin_front (take m bs) (drop m (take n bs)) (subst CanBegin split can)
+    can_begin_prefix (take m bs) (drop m (take n bs)) (subst CanBegin split can)
 
 -- no parts begin with bytes at which each text is refused that goes on from them
-cannot_begin : (parts : List Part) (byte : ℕ) (front rest : List ℕ) (refusal : LexError) → AreParts parts (byte ∷ rest) → ((more : List ℕ) → IsRefusal (1 + line_feeds (text_of parts)) (byte ∷ (front ++ more)) refusal) → CanBegin (text_of parts ++ byte ∷ front) → ⊥
-cannot_begin parts byte front rest refusal are refused can =
-    let others = front ++ can.more in
-    let given = parts_give 0 ((text_of parts ++ byte ∷ front) ++ can.more) can.parts can.is_text can.are_parts in
-    let ends = refusal_given 0 ((text_of parts ++ byte ∷ front) ++ can.more) parts byte others refusal (append_assoc (text_of parts) (byte ∷ front) can.more) (parts_again parts (byte ∷ others) (byte ∷ rest) refl are) (refusal_is_refused (1 + line_feeds (text_of parts)) byte others refusal (refused can.more)) in
+cannot_begin : (parts : List Part) (byte : ℕ) (prefix rest : List ℕ) (refusal : LexError) → AreParts parts (byte ∷ rest) → ((more : List ℕ) → IsRefusal (1 + line_feeds (text_of parts)) (byte ∷ (prefix ++ more)) refusal) → CanBegin (text_of parts ++ byte ∷ prefix) → ⊥
+cannot_begin parts byte prefix rest refusal are refused can =
+    let others = prefix ++ can.more in
+    let given = parts_give 0 ((text_of parts ++ byte ∷ prefix) ++ can.more) can.parts can.is_text can.are_parts in
+    let ends = refusal_given 0 ((text_of parts ++ byte ∷ prefix) ++ can.more) parts byte others refusal (append_assoc (text_of parts) (byte ∷ prefix) can.more) (parts_again parts (byte ∷ others) (byte ∷ rest) refl are) (refusal_is_refused (1 + line_feeds (text_of parts)) byte others refusal (refused can.more)) in
     cc
 
--- the byte after a front
-front_before : (bs front : List ℕ) (byte : ℕ) (others : List ℕ) → bs ≡ front ++ byte ∷ others → take (length front) bs ≡ front
-front_before bs front byte others is = ap (take (length front)) is ∙ take_at front (byte ∷ others) (length front) refl
+-- the byte after a prefix
+prefix_before : (bs prefix : List ℕ) (byte : ℕ) (others : List ℕ) → bs ≡ prefix ++ byte ∷ others → take (length prefix) bs ≡ prefix
+prefix_before bs prefix byte others is = ap (take (length prefix)) is ∙ take_at prefix (byte ∷ others) (length prefix) refl
 
-byte_after : (bs front : List ℕ) (byte : ℕ) (others : List ℕ) → bs ≡ front ++ byte ∷ others → get_or bs (length front) 0 ≡ byte
-byte_after bs front byte others is = ap (λ xs. get_or xs (length front) 0) is ∙ get_or_at front byte others 0 (length front) refl
+byte_after : (bs prefix : List ℕ) (byte : ℕ) (others : List ℕ) → bs ≡ prefix ++ byte ∷ others → get_or bs (length prefix) 0 ≡ byte
+byte_after bs prefix byte others is = ap (λ xs. get_or xs (length prefix) 0) is ∙ get_or_at prefix byte others 0 (length prefix) refl
 
-hopeless_after : (bs front : List ℕ) (byte : ℕ) (others : List ℕ) → bs ≡ front ++ byte ∷ others → CanBegin front → (CanBegin (front ++ byte ∷ []) → ⊥) → IsHopeless bs (length front)
-hopeless_after bs front byte others is can cannot = record {
-  in_range = omega (arith, ap length is, length-append front (byte ∷ others));
-  can_begin = subst CanBegin (sym (front_before bs front byte others is)) can;
+hopeless_after : (bs prefix : List ℕ) (byte : ℕ) (others : List ℕ) → bs ≡ prefix ++ byte ∷ others → CanBegin prefix → (CanBegin (prefix ++ byte ∷ []) → ⊥) → IsHopeless bs (length prefix)
+hopeless_after bs prefix byte others is can cannot = record {
+  in_range = omega (arith, ap length is, length-append prefix (byte ∷ others));
+  can_begin = subst CanBegin (sym (prefix_before bs prefix byte others is)) can;
   cannot = λ with_it. cannot (subst CanBegin joined with_it);
 }
   where
-    joined : take (length front + 1) bs ≡ front ++ byte ∷ []
+    joined : take (length prefix + 1) bs ≡ prefix ++ byte ∷ []
     joined =
-        ap (take (length front + 1)) (is ∙ sym (append_assoc front (byte ∷ []) others))
-        ∙ take_at (front ++ byte ∷ []) others (length front + 1) (length_push front byte)
+        ap (take (length prefix + 1)) (is ∙ sym (append_assoc prefix (byte ∷ []) others))
+        ∙ take_at (prefix ++ byte ∷ []) others (length prefix + 1) (length_push prefix byte)
 
 -- the byte after parts, a quote and some bytes after that
 module _ (bs : List ℕ) (parts : List Part) (quote : ℕ) (content : List ℕ) (byte : ℕ) (others : List ℕ) (is : bs ≡ text_of parts ++ (quote ∷ content ++ byte ∷ others)) where
@@ -135,48 +135,48 @@ no_line_feed_unseparated b none feed = true≢false (ap is_separator (sym feed) 
 bad_byte_after : (text : List ℕ) (line : ℕ) (parts : List Part) (rest : List ℕ) → body_of text ≡ text_of parts ++ rest → AreParts parts rest → IsRefusal (1 + line_feeds (text_of parts)) rest (BadByte line) → HasBadByte text line
 bad_byte_after text line parts rest is are (line_is, inl bad) =
     let body = body_of text in
-    let front = text_of parts in
-    let whole : body ≡ front ++ bad.byte ∷ bad.others = is ∙ ap (λ xs. front ++ xs) bad.bytes_are in
+    let prefix = text_of parts in
+    let whole : body ≡ prefix ++ bad.byte ∷ bad.others = is ∙ ap (λ xs. prefix ++ xs) bad.bytes_are in
     record {
-      at = length front;
-      is_hopeless = hopeless_after body front bad.byte bad.others whole (can_begin_whole front parts rest refl are)
-          (cannot_begin parts bad.byte [] bad.others (BadByte (1 + line_feeds front)) (subst (AreParts parts) bad.bytes_are are)
+      at = length prefix;
+      is_hopeless = hopeless_after body prefix bad.byte bad.others whole (can_begin_whole prefix parts rest refl are)
+          (cannot_begin parts bad.byte [] bad.others (BadByte (1 + line_feeds prefix)) (subst (AreParts parts) bad.bytes_are are)
           (λ more. (refl, inl (record { byte = bad.byte; others = more; bytes_are = refl; no_separator = bad.no_separator; unprintable = bad.unprintable }))));
-      no_line_feed = λ feed. no_line_feed_unseparated bad.byte bad.no_separator (sym (byte_after body front bad.byte bad.others whole) ∙ feed);
-      line_is = line_is ∙ ap (λ xs. 1 + line_feeds xs) (sym (front_before body front bad.byte bad.others whole));
+      no_line_feed = λ feed. no_line_feed_unseparated bad.byte bad.no_separator (sym (byte_after body prefix bad.byte bad.others whole) ∙ feed);
+      line_is = line_is ∙ ap (λ xs. 1 + line_feeds xs) (sym (prefix_before body prefix bad.byte bad.others whole));
     }
 bad_byte_after text line parts rest is are (line_is, inr bad) =
     let body = body_of text in
-    let front = text_of parts ++ 39 ∷ bad.content in
+    let prefix = text_of parts ++ 39 ∷ bad.content in
     let here : body ≡ text_of parts ++ (39 ∷ bad.content ++ bad.byte ∷ bad.others) = is ∙ ap (λ xs. text_of parts ++ xs) bad.bytes_are in
-    let whole : body ≡ front ++ bad.byte ∷ bad.others = around_quote body parts 39 bad.content bad.byte bad.others here in
+    let whole : body ≡ prefix ++ bad.byte ∷ bad.others = around_quote body parts 39 bad.content bad.byte bad.others here in
     let are_here : AreParts parts (39 ∷ bad.content ++ bad.byte ∷ bad.others) = subst (AreParts parts) bad.bytes_are are in
-    let feeds : 1 + line_feeds (text_of parts) ≡ 1 + line_feeds front =
+    let feeds : 1 + line_feeds (text_of parts) ≡ 1 + line_feeds prefix =
     omega (arith, line_feeds-append (text_of parts) (39 ∷ bad.content), line_feeds-cons 39 bad.content, sign_has_none.0, quoted_has_none bad.content bad.is_content) in
     record {
-      at = length front;
+      at = length prefix;
       is_hopeless = hopeless_in_quote body parts 39 bad.content bad.byte bad.others here (BadByte (1 + line_feeds (text_of parts))) are_here
           (λ more. (refl, inr (record { content = bad.content; byte = bad.byte; others = more; bytes_are = refl; is_content = bad.is_content; no_content = bad.no_content; no_quote = bad.no_quote; no_line_feed = bad.no_line_feed })))
           (can_begin_quoted parts bad.content (bad.byte ∷ bad.others) are_here bad.is_content);
-      no_line_feed = λ feed. bad.no_line_feed (sym (byte_after body front bad.byte bad.others whole) ∙ feed);
-      line_is = line_is ∙ feeds ∙ ap (λ xs. 1 + line_feeds xs) (sym (front_before body front bad.byte bad.others whole));
+      no_line_feed = λ feed. bad.no_line_feed (sym (byte_after body prefix bad.byte bad.others whole) ∙ feed);
+      line_is = line_is ∙ feeds ∙ ap (λ xs. 1 + line_feeds xs) (sym (prefix_before body prefix bad.byte bad.others whole));
     }
 
 pub refusal_has_bad_byte : (text : List ℕ) (line : ℕ) → HasRefusal text (BadByte line) → HasBadByte text line
 refusal_has_bad_byte text line has = bad_byte_after text line has.parts has.rest has.text_is has.are_parts has.is_refusal
 
 -- a `*` after a body with no `*/` closes nothing
-no_close-star_after : (bs front back : List ℕ) → HasNoClose bs → bs ++ 42 ∷ [] ≡ front ++ 42 ∷ 47 ∷ back → ⊥
+no_close-star_after : (bs prefix back : List ℕ) → HasNoClose bs → bs ++ 42 ∷ [] ≡ prefix ++ 42 ∷ 47 ∷ back → ⊥
 no_close-star_after [] [] back none is = cc
-no_close-star_after [] (x ∷ front) back none is = let tail : front ++ 42 ∷ 47 ∷ back ≡ [] = cc in not_empty front (47 ∷ back) 42 tail
+no_close-star_after [] (x ∷ prefix) back none is = let tail : prefix ++ 42 ∷ 47 ∷ back ≡ [] = cc in not_empty prefix (47 ∷ back) 42 tail
 no_close-star_after (b ∷ []) [] back none is = let next : ◌≡◌ {A = ℕ} 42 47 = ap (λ xs. get_or xs 1 0) is in omega arith
 no_close-star_after (b ∷ c ∷ bs) [] back none is =
     let first : b ≡ 42 = cc in
     let next : c ≡ 47 = cc in
     none [] bs (ap (λ x. x ∷ c ∷ bs) first ∙ ap (λ x. 42 ∷ x ∷ bs) next)
-no_close-star_after (b ∷ bs) (x ∷ front) back none is =
-    let tail : bs ++ 42 ∷ [] ≡ front ++ 42 ∷ 47 ∷ back = cc in
-    no_close-star_after bs front back (λ f g e. none (b ∷ f) g (ap (λ xs. b ∷ xs) e)) tail
+no_close-star_after (b ∷ bs) (x ∷ prefix) back none is =
+    let tail : bs ++ 42 ∷ [] ≡ prefix ++ 42 ∷ 47 ∷ back = cc in
+    no_close-star_after bs prefix back (λ f g e. none (b ∷ f) g (ap (λ xs. b ∷ xs) e)) tail
 
 -- an open comment can be closed
 pub open_comment_can_begin : (text : List ℕ) (line : ℕ) → HasRefusal text (OpenComment line) → CanBegin (body_of text)
@@ -184,7 +184,7 @@ open_comment_can_begin text line has =
     let open_part = has.is_refusal.1 in
     subst CanBegin (sym (has.text_is ∙ ap (λ xs. text_of has.parts ++ xs) open_part.bytes_are))
     (can_begin_inside has.parts (47 ∷ 42 ∷ open_part.body) (gap (47 ∷ 42 ∷ open_part.body ++ 42 ∷ 47 ∷ [])) (47 ∷ 42 ∷ open_part.body) (42 ∷ 47 ∷ []) (subst (AreParts has.parts) open_part.bytes_are has.are_parts) refl refl
-    (block_comment (record { body = open_part.body; bytes_are = refl; is_next = λ front back is. no_close-star_after open_part.body front back open_part.has_no_close is })))
+    (block_comment (record { body = open_part.body; bytes_are = refl; is_next = λ prefix back is. no_close-star_after open_part.body prefix back open_part.has_no_close is })))
 
 content-append : (xs ys : List ℕ) → IsContent xs → IsContent ys → IsContent (xs ++ ys)
 content-append [] ys is is' = is'
@@ -210,7 +210,7 @@ text_cut_off parts content are is =
     let longer : CanBegin (text_of parts ++ (34 ∷ content ++ 92 ∷ 92 ∷ [])) = can_begin_text parts (content ++ 92 ∷ 92 ∷ []) [] (parts_again parts _ (34 ∷ content ++ 92 ∷ []) refl are) taken in
     let split : text_of parts ++ (34 ∷ content ++ 92 ∷ 92 ∷ []) ≡ (text_of parts ++ (34 ∷ content ++ 92 ∷ [])) ++ 92 ∷ [] =
     ap (λ xs. text_of parts ++ 34 ∷ xs) (sym (append_assoc content (92 ∷ []) (92 ∷ []))) ∙ sym (append_assoc (text_of parts) (34 ∷ content ++ 92 ∷ []) (92 ∷ [])) in
-    can_begin_front (text_of parts ++ (34 ∷ content ++ 92 ∷ [])) (92 ∷ []) (subst CanBegin split longer)
+    can_begin_prefix (text_of parts ++ (34 ∷ content ++ 92 ∷ [])) (92 ∷ []) (subst CanBegin split longer)
 
 open_quote_after : (text : List ℕ) (line : ℕ) (parts : List Part) (rest : List ℕ) → body_of text ≡ text_of parts ++ rest → AreParts parts rest → IsOpenQuoted rest ⊎ IsOpenText rest → CanBegin (body_of text) ⊎ HasBadLineFeed text
 open_quote_after text line parts rest is are (inl quoted) =
@@ -237,7 +237,7 @@ open_quote_ends text line has = open_quote_after text line has.parts has.rest ha
 -- no byte is hopeless in bytes with which parts can begin, and only one in any
 none_is_hopeless : (bs : List ℕ) (at : ℕ) → CanBegin bs → IsHopeless bs at → ⊥
 none_is_hopeless bs at can here =
-    here.cannot (can_begin_front (take (at + 1) bs) (drop (at + 1) bs) (subst CanBegin (sym (take-append-drop (at + 1) bs)) can))
+    here.cannot (can_begin_prefix (take (at + 1) bs) (drop (at + 1) bs) (subst CanBegin (sym (take-append-drop (at + 1) bs)) can))
 
 one_is_hopeless : (bs : List ℕ) (at other : ℕ) → IsHopeless bs at → IsHopeless bs other → at ≡ other
 one_is_hopeless bs at other here there =

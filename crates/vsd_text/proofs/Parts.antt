@@ -14,7 +14,7 @@ use Rattle.vsd_text.specs.declared.tokens.TokenKind.{TokenKind}
 use Rattle.vsd_text.specs.declared.tokens.TokenKind.TheVariants.{Word, Quoted, Number, Text, Symbol, Colons, Percents}
 use Rattle.vsd_text.specs.declared.tokens.LexError.{LexError}
 use Rattle.vsd_text.specs.declared.pieces.Piece.{Piece}
-use Rattle.vsd_text.proofs.Fronts.{passes_amid, not_empty, front_passes, front_stops, Stops, prefix_len-of_front}
+use Rattle.vsd_text.proofs.Prefixes.{passes_amid, not_empty, prefix_passes, prefix_stops, Stops, prefix_len-of_prefix}
 use Rattle.vsd_text.proofs.LineFeeds.{take_next}
 use Rattle.vsd_text.proofs.Quotes.{TextSplit, ended, cut_off, text_split, text_len-of_content}
 use Rattle.vsd_text.proofs.Comments.{CommentSplit, closed, open_ended, comment_split, comment_len-of_body, comment_len-of_open}
@@ -113,7 +113,7 @@ quote_ends = refl
 -- two contents before a quote have one length
 same_quoted_len : (xs ys more : List ℕ) → AllPass is_quoted_byte xs → AllPass is_quoted_byte ys → xs ++ 39 ∷ more ≡ ys ++ 39 ∷ [] → length xs ≡ length ys
 same_quoted_len xs ys more all all' is =
-    sym (prefix_len-of_front is_quoted_byte xs (39 ∷ more) all quote_ends) ∙ ap (prefix_len is_quoted_byte) is ∙ prefix_len-of_front is_quoted_byte ys (39 ∷ []) all' quote_ends
+    sym (prefix_len-of_prefix is_quoted_byte xs (39 ∷ more) all quote_ends) ∙ ap (prefix_len is_quoted_byte) is ∙ prefix_len-of_prefix is_quoted_byte ys (39 ∷ []) all' quote_ends
 
 same_text_len : (xs ys more : List ℕ) → IsContent xs → IsContent ys → xs ++ 34 ∷ more ≡ ys ++ 34 ∷ [] → length xs ≡ length ys
 same_text_len xs ys more is is' e =
@@ -243,8 +243,8 @@ line_comment_is_part bs =
     record {
       within = omega (arith, prefix_len-le-length is_line_byte bs);
       is_part = rw add-one (line_comment
-          (record { body = take n bs; bytes_are = refl; one_line = front_passes is_line_byte bs })
-          (ends_line (drop n bs) (front_stops is_line_byte bs)));
+          (record { body = take n bs; bytes_are = refl; one_line = prefix_passes is_line_byte bs })
+          (ends_line (drop n bs) (prefix_stops is_line_byte bs)));
     }
 
 block_closed : (line : ℕ) (body more : List ℕ) → HasNoClose (body ++ 42 ∷ []) → OkIsPart 47 (42 ∷ (body ++ 42 ∷ 47 ∷ more)) (closed_comment line (comment_len (body ++ 42 ∷ 47 ∷ more)) (drop (comment_len (body ++ 42 ∷ 47 ∷ more)) (body ++ 42 ∷ 47 ∷ more)))
@@ -295,15 +295,15 @@ slash_is_part line (c ∷ bs) =
 run_is_part : (b : ℕ) (bs : List ℕ) → is_run_byte b ≡ true → PieceIsPart b bs (record { kind = Some (run_kind b); more = prefix_len is_run_byte bs })
 run_is_part b bs runs =
     let n = prefix_len is_run_byte bs in
-    let longest = longest_run b (take n bs) (drop n bs) runs (front_stops is_run_byte bs) in
+    let longest = longest_run b (take n bs) (drop n bs) runs (prefix_stops is_run_byte bs) in
     cond_both (is_digit b) Number Word (λ kind. PieceIsPart b bs (record { kind = Some kind; more = n }))
     (λ digit. record {
       within = prefix_len-le-length is_run_byte bs;
-      is_part = (record { byte = b; others = take n bs; bytes_are = refl; begins = digit; goes_on = front_passes is_run_byte bs }, longest);
+      is_part = (record { byte = b; others = take n bs; bytes_are = refl; begins = digit; goes_on = prefix_passes is_run_byte bs }, longest);
     })
     (λ no_digit. record {
       within = prefix_len-le-length is_run_byte bs;
-      is_part = (record { byte = b; others = take n bs; bytes_are = refl; begins = run_is_letter b runs no_digit; goes_on = front_passes is_run_byte bs }, longest);
+      is_part = (record { byte = b; others = take n bs; bytes_are = refl; begins = run_is_letter b runs no_digit; goes_on = prefix_passes is_run_byte bs }, longest);
     })
 
 text_is_part : (line b : ℕ) (bs : List ℕ) → b ≡ 34 → TextSplit bs → OkIsPart b bs (closed_by 34 Text line (text_len false bs) (drop (text_len false bs) bs))
@@ -322,7 +322,7 @@ piece_is_part line b bs =
     (λ separates. record { within = omega arith; is_part = separator (record { byte = b; bytes_are = refl; separates = separates }) })
     (λ _. cond_both (eqb b 39) _ _ (OkIsPart b bs)
     (λ same. closed_is_part 39 Quoted line b (prefix_len is_quoted_byte bs) bs _ (eqb-true b 39 same) refl
-    (λ c more _. quoted_part (take (prefix_len is_quoted_byte bs) bs) more (front_passes is_quoted_byte bs)))
+    (λ c more _. quoted_part (take (prefix_len is_quoted_byte bs) bs) more (prefix_passes is_quoted_byte bs)))
     (λ no_single. cond_both (eqb b 34) _ _ (OkIsPart b bs)
     (λ same. text_is_part line b bs (eqb-true b 34 same) (text_split bs))
     (λ no_double. cond_both (eqb b 47) _ _ (OkIsPart b bs)

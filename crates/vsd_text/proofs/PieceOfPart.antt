@@ -11,7 +11,7 @@ use Rattle.vsd_text.specs.Spelling.{IsRun, IsQuoted, IsText, IsSymbol, IsLexeme,
 use Rattle.vsd_text.specs.declared.tokens.TokenKind.{TokenKind}
 use Rattle.vsd_text.specs.declared.tokens.TokenKind.TheVariants.{Word, Quoted, Number, Text, Symbol, Colons, Percents}
 use Rattle.vsd_text.proofs.Classes.{letter_runs, digit_runs, letter_is_no_digit, printable_is_no_separator, separator_is_no_run_byte}
-use Rattle.vsd_text.proofs.Fronts.{Stops, prefix_len-of_front}
+use Rattle.vsd_text.proofs.Prefixes.{Stops, prefix_len-of_prefix}
 use Rattle.vsd_text.proofs.Parts.{quote_ends}
 use Rattle.vsd_text.proofs.Quotes.{text_len-of_content}
 use Rattle.vsd_text.proofs.Comments.{comment_len-of_body}
@@ -44,7 +44,7 @@ number_is_piece bs rest r longest =
       byte = r.byte;
       others = r.others;
       bytes_are = r.bytes_are;
-      piece_is = λ line. rw (runs, r.begins, prefix_len-of_front is_run_byte r.others rest r.goes_on stops) refl;
+      piece_is = λ line. rw (runs, r.begins, prefix_len-of_prefix is_run_byte r.others rest r.goes_on stops) refl;
     }
 
 word_is_piece : (bs rest : List ℕ) → IsRun is_letter bs → IsLongest bs rest → PartIsPiece (lexeme Word bs) rest
@@ -56,7 +56,7 @@ word_is_piece bs rest r longest =
       byte = r.byte;
       others = r.others;
       bytes_are = r.bytes_are;
-      piece_is = λ line. rw (runs, letter_is_no_digit r.byte r.begins, prefix_len-of_front is_run_byte r.others rest r.goes_on stops) refl;
+      piece_is = λ line. rw (runs, letter_is_no_digit r.byte r.begins, prefix_len-of_prefix is_run_byte r.others rest r.goes_on stops) refl;
     }
 
 -- at a single quote, a double quote and a `/`
@@ -91,7 +91,7 @@ quoted_is_piece bs rest r = record {
   piece_is = λ line.
       at_single_quote line ((r.content ++ 39 ∷ []) ++ rest)
       ∙ ap (λ xs. closed_by 39 Quoted line (prefix_len is_quoted_byte xs) (drop (prefix_len is_quoted_byte xs) xs)) (append_assoc r.content (39 ∷ []) rest)
-      ∙ closed_after 39 Quoted line (prefix_len is_quoted_byte (r.content ++ 39 ∷ rest)) r.content rest (prefix_len-of_front is_quoted_byte r.content (39 ∷ rest) r.is_content quote_ends);
+      ∙ closed_after 39 Quoted line (prefix_len is_quoted_byte (r.content ++ 39 ∷ rest)) r.content rest (prefix_len-of_prefix is_quoted_byte r.content (39 ∷ rest) r.is_content quote_ends);
 }
 
 text_is_piece : (bs rest : List ℕ) → IsText bs → PartIsPiece (lexeme Text bs) rest
@@ -172,7 +172,7 @@ line_comment_is_piece bs rest r ends = record {
   bytes_are = r.bytes_are;
   piece_is = λ line.
       at_slash line (47 ∷ (r.body ++ rest))
-      ∙ rw (prefix_len-of_front is_line_byte r.body rest r.one_line (stops_line rest ends), add-one) refl;
+      ∙ rw (prefix_len-of_prefix is_line_byte r.body rest r.one_line (stops_line rest ends), add-one) refl;
 }
 
 block_comment_is_piece : (bs rest : List ℕ) → IsBlockComment bs → PartIsPiece (gap bs) rest

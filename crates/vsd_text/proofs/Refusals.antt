@@ -13,7 +13,7 @@ use Rattle.vsd_text.specs.declared.tokens.LexError.{LexError}
 use Rattle.vsd_text.specs.declared.tokens.LexError.TheVariants.{BadByte, OpenComment, OpenQuote, TooLong, Memory}
 use Rattle.vsd_text.specs.declared.pieces.Piece.{Piece}
 use Rattle.vsd_text.proofs.Classes.{run_byte_is_printable}
-use Rattle.vsd_text.proofs.Fronts.{Stops, front_passes, front_stops, prefix_len-of_front}
+use Rattle.vsd_text.proofs.Prefixes.{Stops, prefix_passes, prefix_stops, prefix_len-of_prefix}
 use Rattle.vsd_text.proofs.Quotes.{EndsText, TextSplit, ended, cut_off, text_split, text_len-append, text_len-cut_off, text_len-of_content}
 use Rattle.vsd_text.proofs.Comments.{CommentSplit, closed, open_ended, comment_split, comment_len-of_body, comment_len-of_open}
 use Rattle.vsd_text.proofs.PieceOfPart.{at_single_quote, at_double_quote, at_slash}
@@ -34,7 +34,7 @@ quoted_refusal line bs [] is = (
     content = take (prefix_len is_quoted_byte bs) bs;
     rest = [];
     bytes_are = ap (λ xs. 39 ∷ xs) (sym (take-append-drop (prefix_len is_quoted_byte bs) bs) ∙ ap (λ xs. take (prefix_len is_quoted_byte bs) bs ++ xs) is);
-    is_content = front_passes is_quoted_byte bs;
+    is_content = prefix_passes is_quoted_byte bs;
     ends = tt;
   }),
 )
@@ -43,7 +43,7 @@ quoted_refusal line bs (c ∷ more) is =
     let bytes : 39 ∷ bs ≡ 39 ∷ take n bs ++ c ∷ more = ap (λ xs. 39 ∷ xs) (sym (take-append-drop n bs) ∙ ap (λ xs. take n bs ++ xs) is) in
     cond_both (eqb c 39) _ _ (ErrIsRefusal line (39 ∷ bs)) (λ _. tt)
     (λ no_quote. cond_both (eqb c 10) _ _ (ErrIsRefusal line (39 ∷ bs))
-    (λ feed. (refl, inl (record { content = take n bs; rest = c ∷ more; bytes_are = bytes; is_content = front_passes is_quoted_byte bs; ends = eqb-true c 10 feed })))
+    (λ feed. (refl, inl (record { content = take n bs; rest = c ∷ more; bytes_are = bytes; is_content = prefix_passes is_quoted_byte bs; ends = eqb-true c 10 feed })))
     (λ no_feed. (
       refl,
       inr (record {
@@ -51,8 +51,8 @@ quoted_refusal line bs (c ∷ more) is =
         byte = c;
         others = more;
         bytes_are = bytes;
-        is_content = front_passes is_quoted_byte bs;
-        no_content = subst (Stops is_quoted_byte) is (front_stops is_quoted_byte bs);
+        is_content = prefix_passes is_quoted_byte bs;
+        no_content = subst (Stops is_quoted_byte) is (prefix_stops is_quoted_byte bs);
         no_quote = eqb-false c 39 no_quote;
         no_line_feed = eqb-false c 10 no_feed;
       }),
@@ -140,7 +140,7 @@ closed_by-bad quote kind line n c more no_quote no_feed = rw (ne_eqb c quote no_
 -- what is read at a quote, by its content and what follows it
 quoted_here : (line : ℕ) (content rest : List ℕ) → AllPass is_quoted_byte content → Stops is_quoted_byte rest → first_piece line 39 (content ++ rest) ≡ closed_by 39 Quoted line (length content) rest
 quoted_here line content rest all stops =
-    let len = prefix_len-of_front is_quoted_byte content rest all stops in
+    let len = prefix_len-of_prefix is_quoted_byte content rest all stops in
     at_single_quote line (content ++ rest) ∙ rw (len, drop_at content rest (length content) refl) refl
 
 text_here : (line : ℕ) (content rest : List ℕ) → IsContent content → EndsText rest → first_piece line 34 (content ++ rest) ≡ closed_by 34 Text line (length content) rest

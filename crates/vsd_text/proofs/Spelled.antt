@@ -95,47 +95,47 @@ pub sign_has_none : (line_feeds (39 ∷ []) ≡ 0) × (line_feeds (34 ∷ []) �
 unfolding is_line_feed
 sign_has_none = (refl, refl)
 
-take_quote : (front : List ℕ) (quote : ℕ) (others rest : List ℕ) → line_feeds (quote ∷ []) ≡ 0 → line_feeds (take (length front + 1) (front ++ ((quote ∷ others) ++ rest))) ≡ line_feeds front
-take_quote front quote others rest none =
-    let bytes : front ++ ((quote ∷ others) ++ rest) ≡ (front ++ quote ∷ []) ++ (others ++ rest) = sym (append_assoc front (quote ∷ []) (others ++ rest)) in
-    ap (λ xs. line_feeds (take (length front + 1) xs)) bytes
-    ∙ ap line_feeds (take_at (front ++ quote ∷ []) (others ++ rest) (length front + 1) (length_push front quote))
-    ∙ omega (arith, line_feeds-append front (quote ∷ []), none)
+take_quote : (prefix : List ℕ) (quote : ℕ) (others rest : List ℕ) → line_feeds (quote ∷ []) ≡ 0 → line_feeds (take (length prefix + 1) (prefix ++ ((quote ∷ others) ++ rest))) ≡ line_feeds prefix
+take_quote prefix quote others rest none =
+    let bytes : prefix ++ ((quote ∷ others) ++ rest) ≡ (prefix ++ quote ∷ []) ++ (others ++ rest) = sym (append_assoc prefix (quote ∷ []) (others ++ rest)) in
+    ap (λ xs. line_feeds (take (length prefix + 1) xs)) bytes
+    ∙ ap line_feeds (take_at (prefix ++ quote ∷ []) (others ++ rest) (length prefix + 1) (length_push prefix quote))
+    ∙ omega (arith, line_feeds-append prefix (quote ∷ []), none)
 
-take_front : (front after : List ℕ) → line_feeds (take (length front + 0) (front ++ after)) ≡ line_feeds front
-take_front front after = let there : length front ≡ length front + 0 = omega arith in ap line_feeds (take_at front after (length front + 0) there)
+take_prefix : (prefix after : List ℕ) → line_feeds (take (length prefix + 0) (prefix ++ after)) ≡ line_feeds prefix
+take_prefix prefix after = let there : length prefix ≡ length prefix + 0 = omega arith in ap line_feeds (take_at prefix after (length prefix + 0) there)
 
 -- the line feeds before a token's range
-before_range : (front bs rest : List ℕ) (kind : TokenKind) → IsLexeme kind bs → line_feeds (take (length front + margin kind) (front ++ (bs ++ rest))) ≡ line_feeds front
-before_range front bs rest Word is = take_front front (bs ++ rest)
-before_range front bs rest Quoted is =
-    ap (λ xs. line_feeds (take (length front + 1) (front ++ (xs ++ rest)))) is.bytes_are ∙ take_quote front 39 (is.content ++ 39 ∷ []) rest sign_has_none.0
-before_range front bs rest Number is = take_front front (bs ++ rest)
-before_range front bs rest Text is =
-    ap (λ xs. line_feeds (take (length front + 1) (front ++ (xs ++ rest)))) is.bytes_are ∙ take_quote front 34 (is.content ++ 34 ∷ []) rest sign_has_none.1
-before_range front bs rest (Symbol byte) is = take_front front (bs ++ rest)
-before_range front bs rest Colons is = take_front front (bs ++ rest)
-before_range front bs rest Percents is = take_front front (bs ++ rest)
+before_range : (prefix bs rest : List ℕ) (kind : TokenKind) → IsLexeme kind bs → line_feeds (take (length prefix + margin kind) (prefix ++ (bs ++ rest))) ≡ line_feeds prefix
+before_range prefix bs rest Word is = take_prefix prefix (bs ++ rest)
+before_range prefix bs rest Quoted is =
+    ap (λ xs. line_feeds (take (length prefix + 1) (prefix ++ (xs ++ rest)))) is.bytes_are ∙ take_quote prefix 39 (is.content ++ 39 ∷ []) rest sign_has_none.0
+before_range prefix bs rest Number is = take_prefix prefix (bs ++ rest)
+before_range prefix bs rest Text is =
+    ap (λ xs. line_feeds (take (length prefix + 1) (prefix ++ (xs ++ rest)))) is.bytes_are ∙ take_quote prefix 34 (is.content ++ 34 ∷ []) rest sign_has_none.1
+before_range prefix bs rest (Symbol byte) is = take_prefix prefix (bs ++ rest)
+before_range prefix bs rest Colons is = take_prefix prefix (bs ++ rest)
+before_range prefix bs rest Percents is = take_prefix prefix (bs ++ rest)
 
 -- each token's line is one more than the line feeds before it
 abbrev pub LinesAre : List ℕ → List Token → Type 0
 LinesAre text tokens = All (λ token. token.line ≡ 1 + line_feeds (take token.start text)) tokens
 
 -- after one more part
-lines_after : (front bs : List ℕ) (parts : List Part) → LinesAre ((front ++ bs) ++ text_of parts) (tokens_in (length (front ++ bs)) (1 + line_feeds (front ++ bs)) parts) → LinesAre (front ++ (bs ++ text_of parts)) (tokens_in (length front + length bs) (1 + line_feeds front + line_feeds bs) parts)
-lines_after front bs parts lines =
-    let lines_are : 1 + line_feeds (front ++ bs) ≡ 1 + line_feeds front + line_feeds bs = omega (arith, line_feeds-append front bs) in
-    subst (λ xs. LinesAre xs (tokens_in (length front + length bs) (1 + line_feeds front + line_feeds bs) parts)) (append_assoc front bs (text_of parts))
-    (subst (λ l. LinesAre ((front ++ bs) ++ text_of parts) (tokens_in (length front + length bs) l parts)) lines_are
-    (subst (λ p. LinesAre ((front ++ bs) ++ text_of parts) (tokens_in p (1 + line_feeds (front ++ bs)) parts)) (length-append front bs) lines))
+lines_after : (prefix bs : List ℕ) (parts : List Part) → LinesAre ((prefix ++ bs) ++ text_of parts) (tokens_in (length (prefix ++ bs)) (1 + line_feeds (prefix ++ bs)) parts) → LinesAre (prefix ++ (bs ++ text_of parts)) (tokens_in (length prefix + length bs) (1 + line_feeds prefix + line_feeds bs) parts)
+lines_after prefix bs parts lines =
+    let lines_are : 1 + line_feeds (prefix ++ bs) ≡ 1 + line_feeds prefix + line_feeds bs = omega (arith, line_feeds-append prefix bs) in
+    subst (λ xs. LinesAre xs (tokens_in (length prefix + length bs) (1 + line_feeds prefix + line_feeds bs) parts)) (append_assoc prefix bs (text_of parts))
+    (subst (λ l. LinesAre ((prefix ++ bs) ++ text_of parts) (tokens_in (length prefix + length bs) l parts)) lines_are
+    (subst (λ p. LinesAre ((prefix ++ bs) ++ text_of parts) (tokens_in p (1 + line_feeds (prefix ++ bs)) parts)) (length-append prefix bs) lines))
 
-lines_in : (front : List ℕ) (parts : List Part) (rest : List ℕ) → AreParts parts rest → LinesAre (front ++ text_of parts) (tokens_in (length front) (1 + line_feeds front) parts)
-lines_in front [] rest are = All-nil (λ token. token.line ≡ 1 + line_feeds (take token.start (front ++ [])))
-lines_in front (gap bs ∷ parts) rest are = lines_after front bs parts (lines_in (front ++ bs) parts rest are.1)
-lines_in front (lexeme kind bs ∷ parts) rest are =
-    All-cons (λ token. token.line ≡ 1 + line_feeds (take token.start (front ++ (bs ++ text_of parts)))) _ _
-    (ap (λ n. 1 + n) (sym (before_range front bs (text_of parts) kind are.0.0)))
-    (lines_after front bs parts (lines_in (front ++ bs) parts rest are.1))
+lines_in : (prefix : List ℕ) (parts : List Part) (rest : List ℕ) → AreParts parts rest → LinesAre (prefix ++ text_of parts) (tokens_in (length prefix) (1 + line_feeds prefix) parts)
+lines_in prefix [] rest are = All-nil (λ token. token.line ≡ 1 + line_feeds (take token.start (prefix ++ [])))
+lines_in prefix (gap bs ∷ parts) rest are = lines_after prefix bs parts (lines_in (prefix ++ bs) parts rest are.1)
+lines_in prefix (lexeme kind bs ∷ parts) rest are =
+    All-cons (λ token. token.line ≡ 1 + line_feeds (take token.start (prefix ++ (bs ++ text_of parts)))) _ _
+    (ap (λ n. 1 + n) (sym (before_range prefix bs (text_of parts) kind are.0.0)))
+    (lines_after prefix bs parts (lines_in (prefix ++ bs) parts rest are.1))
 
 -- the tokens of a list are on the lines that the text says
 pub list_has_lines : (text : List ℕ) (tokens : List Token) → IsTokenList text tokens → LinesAre text tokens

@@ -73,7 +73,7 @@ IsLongest bs (next ∷ rest) = EndsToken bs next
 
 -- no `*/` stands in the bytes
 abbrev pub HasNoClose : List ℕ → Type 0
-HasNoClose bs = (front back : List ℕ) → bs ≡ front ++ 42 ∷ 47 ∷ back → ⊥
+HasNoClose bs = (prefix back : List ℕ) → bs ≡ prefix ++ 42 ∷ 47 ∷ back → ⊥
 
 -- one separator
 pub record IsSeparator (bs : List ℕ) : Type 0 where
@@ -210,10 +210,10 @@ pub record HasRefusal (text : List ℕ) (refusal : LexError) : Type 0 where
   pub is_refusal : IsRefusal (1 + line_feeds (text_of parts)) rest refusal
 
 -- some list of parts spells bytes that begin with these
-pub record CanBegin (front : List ℕ) : Type 0 where
+pub record CanBegin (prefix : List ℕ) : Type 0 where
   pub more : List ℕ
   pub parts : List Part
-  pub is_text : front ++ more ≡ text_of parts
+  pub is_text : prefix ++ more ≡ text_of parts
   pub are_parts : AreParts parts []
 
 -- the byte at this place is the first one up to which, with itself, no parts can begin

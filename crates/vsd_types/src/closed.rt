@@ -136,7 +136,7 @@ impl Closed {
         self.entry(t).kind.is_reference
     }
 
-    /// The place of the type's declaration, which a built-in does not have.
+    /// The place, from 0, of the type's declaration, which a built-in does not have.
     pub fn declaration(&self, t: u16) -> Option<u16>
         requires { t < length self.now.types }
         ensures place { result ≡ place_of_head self.now.decls.list (head_of (type_at self.now.types t)) }

@@ -1,4 +1,4 @@
--- The longest front of a list whose elements all pass a test, and other fronts.
+-- The longest prefix of a list whose elements all pass a test, and other prefixes.
 use Rattle.std.proofs.Common.{◌≡◌, ℕ, ◌+◌, List, [], ◌∷◌, ◌++◌, length, take, drop, Bool, true, false, refl, arith}
 use Rattle.std.specs.List.{prefix_len, AllPass}
 use Rattle.std.proofs.Math.Numerals.{one-add}
@@ -22,25 +22,25 @@ Stops test [] = Unit {0}
 Stops test (c ∷ more) = test c ≡ false
 
 module _ (test : ℕ → Bool) where
-  -- the longest front and what follows it
-  pub front_passes : (bs : List ℕ) → AllPass test (take (prefix_len test bs) bs)
-  front_passes [] = All-nil (λ x. test x ≡ true)
-  front_passes (b ∷ bs) =
+  -- the longest prefix and what follows it
+  pub prefix_passes : (bs : List ℕ) → AllPass test (take (prefix_len test bs) bs)
+  prefix_passes [] = All-nil (λ x. test x ≡ true)
+  prefix_passes (b ∷ bs) =
       cond_both (test b) (1 + prefix_len test bs) 0 (λ n. AllPass test (take n (b ∷ bs)))
-      (λ passes. rw one-add (All-cons (λ x. test x ≡ true) b (take (prefix_len test bs) bs) passes (front_passes bs)))
+      (λ passes. rw one-add (All-cons (λ x. test x ≡ true) b (take (prefix_len test bs) bs) passes (prefix_passes bs)))
       (λ _. All-nil (λ x. test x ≡ true))
 
-  pub front_stops : (bs : List ℕ) → Stops test (drop (prefix_len test bs) bs)
-  front_stops [] = tt
-  front_stops (b ∷ bs) =
+  pub prefix_stops : (bs : List ℕ) → Stops test (drop (prefix_len test bs) bs)
+  prefix_stops [] = tt
+  prefix_stops (b ∷ bs) =
       cond_both (test b) (1 + prefix_len test bs) 0 (λ n. Stops test (drop n (b ∷ bs)))
-      (λ _. rw one-add (front_stops bs))
+      (λ _. rw one-add (prefix_stops bs))
       (λ fails. fails)
 
-  -- a front whose elements all pass, before one that fails, is the longest
-  pub prefix_len-of_front : (bs rest : List ℕ) → AllPass test bs → Stops test rest → prefix_len test (bs ++ rest) ≡ length bs
-  prefix_len-of_front [] [] all stops = refl
-  prefix_len-of_front [] (c ∷ more) all stops = rw stops refl
-  prefix_len-of_front (b ∷ bs) rest all stops =
+  -- a prefix whose elements all pass, before one that fails, is the longest
+  pub prefix_len-of_prefix : (bs rest : List ℕ) → AllPass test bs → Stops test rest → prefix_len test (bs ++ rest) ≡ length bs
+  prefix_len-of_prefix [] [] all stops = refl
+  prefix_len-of_prefix [] (c ∷ more) all stops = rw stops refl
+  prefix_len-of_prefix (b ∷ bs) rest all stops =
       let passes : test b ≡ true = All-head (λ x. test x ≡ true) b bs all in
-      rw (passes, prefix_len-of_front bs rest (All-tail (λ x. test x ≡ true) b bs all) stops, one-add) refl
+      rw (passes, prefix_len-of_prefix bs rest (All-tail (λ x. test x ≡ true) b bs all) stops, one-add) refl
