@@ -1,6 +1,8 @@
 //! What each override implements, in a row for each declaration.
-ghost use Rattle.std.specs.Prelude.{◌≡◌, ◌<◌, length, IfOk, IsTrue, OnOk};
+ghost use Rattle.std.specs.Prelude.{◌≡◌, ◌<◌, length, IfOk, IsSome, IsTrue};
 ghost use Rattle.std.specs.HashMap.{get};
+ghost use denote.Ref.{Bor};
+ghost use Rattle.vsd_terms.specs.declared.term.Term.{Term};
 ghost use Rattle.vsd_ast.specs.Lookup.{is_lawful};
 ghost use Rattle.vsd_ast.specs.WellFormed.{IsDeclaration, IsOverride};
 ghost use Rattle.vsd_ast.specs.declared.declarations.Decl.{Decl};
@@ -13,7 +15,7 @@ ghost use Rattle.std.specs.Prelude.{Some, slice_get};
 
 use crate::Target;
 use crate::meaning::meaning;
-use crate::owners::has_owner;
+use crate::owners::{is_had, owners_had};
 use sqlite_items::Items;
 use std::alloc::{AllocError, Global};
 use std::collections::HashMap;
@@ -24,32 +26,29 @@ use vsd_ways::upward_order;
 
 // What an override of the declaration at `at` implements.
 fn target_of<'a>(
-    alloc: Global,
     h: &Hierarchy<'_>,
-    order: &[u16],
     chain: &[usize],
     at: usize,
     decl: &Decl,
     o: &'a Override,
-    known: &mut HashMap<&'a Term, bool>,
-) -> Result<Option<Target>, AllocError>
+    known: &HashMap<&'a Term, bool>,
+) -> Option<Target>
     requires settled { IsSettled h.now.decls.now h.now.places.now h.now.depths.now }
     requires there { slice_get h.now.decls.now at ≡ Some decl.now }
     requires chained { IsChain h.now.decls.now at chain.now }
-    requires order { IsOrder (length h.now.decls.now) h.now.depths.now order.now }
     requires written { IsOverride (length h.now.places.now) (length decl.now.params) (length decl.now.methods) o.now }
     requires lawful { IsTrue (is_lawful h.now.decls.now o.now.owner) }
-    requires known { AreKnown h.now.decls.now chain.now (get same_owner known.old) }
-    ensures target { IfOk result (IsTarget h.now.decls.now at decl.now o.now) }
-    ensures known { OnOk result (AreKnown h.now.decls.now chain.now (get same_owner known.new)) }
+    requires known { AreKnown h.now.decls.now chain.now (get same_owner known.now) }
+    requires told { (q : Bor Term) → q.now ≡ o.now.owner → IsSome (get same_owner known.now q) }
+    ensures { IsTarget h.now.decls.now at decl.now o.now result }
 {
     let Some(target) = meaning(h, decl, o) else {
-        return Ok(None);
+        return None;
     };
-    if !has_owner(alloc, h, order, chain, &o.owner, known)? {
-        return Ok(None);
+    if !is_had(known, &o.owner) {
+        return None;
     }
-    Ok(Some(target))
+    Some(target)
 }
 
 // What each override of one declaration implements.
@@ -69,19 +68,10 @@ fn target_row(
     let upward = chain(alloc, h, at)?;
     let decl = &h.decls[at];
     let overrides = decl.overrides.as_slice();
-    let mut known = HashMap::new(alloc);
+    let known = owners_had(alloc, h, order, upward.as_slice(), overrides)?;
     let mut row = Items::new(alloc);
     for i in 0..overrides.len() {
-        let target = target_of(
-            alloc,
-            h,
-            order,
-            upward.as_slice(),
-            at,
-            decl,
-            &overrides[i],
-            &mut known,
-        )?;
+        let target = target_of(h, upward.as_slice(), at, decl, &overrides[i], &known);
         row.push(target)?;
     }
     Ok(row)

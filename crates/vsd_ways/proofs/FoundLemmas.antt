@@ -1,7 +1,7 @@
 -- An element with a property, looked for from the first place on.
-use Rattle.std.proofs.Common.{◌≡◌, ℕ, zero, suc, ◌+◌, ◌<◌, ◌≤◌, List, [], ◌∷◌, ◌++◌, length, set, refl, sym, ap, ◌∙◌, subst, Some, ◌⊎◌, inl, inr, ◌↔◌, true, false, IsTrue, arith}
+use Rattle.std.proofs.Common.{◌≡◌, ℕ, zero, suc, ◌+◌, ◌<◌, ◌≤◌, List, [], ◌∷◌, ◌++◌, length, set, refl, sym, ap, ◌∙◌, subst, Some, ◌⊎◌, inl, inr, ◌↔◌, arith}
 use Rattle.std.specs.List.{slice_get}
-use Rattle.std.proofs.lemmas.Bool.{cases_lt, false≢true}
+use Rattle.std.proofs.lemmas.Bool.{cases_lt}
 use Rattle.std.proofs.lemmas.List.{length_push}
 use Rattle.std.proofs.lemmas.Option.{slice_get_within}
 use Rattle.vsd_lift.proofs.ChainLemmas.{slice_get-left, slice_get-seam}
@@ -38,16 +38,23 @@ module _ {A : Type 0} (P : A → Type 0) (xs : List A) where
   pub none-more : (n : ℕ) (x : A) → slice_get xs n ≡ Some x → (SomeBefore P n xs → ⊥) → (P x → ⊥) → SomeBefore P (n + 1) xs → ⊥
   none-more n x here none other w = elim (before-split n x here w) [ inl b ↦ none b | inr p ↦ other p ]
 
-  -- a search that ends without finding
-  pub not-found : (n : ℕ) → length xs ≤ n → (SomeBefore P n xs → ⊥) → IsTrue false ↔ SomeOf P xs
-  not-found n past none = (λ no_. absurd (false≢true no_), λ w. absurd (none (before-all n past w)))
-
-  -- a search that finds
-  pub found-here : (n : ℕ) (x : A) → slice_get xs n ≡ Some x → P x → IsTrue true ↔ SomeOf P xs
-  found-here n x here has = (λ yes_. record { place = n; element = x; there = here; has = has }, λ w. refl)
-
 pub SomeOf-map : {A : Type 0} (P Q : A → Type 0) (xs : List A) → ((x : A) → P x → Q x) → SomeOf P xs → SomeOf Q xs
 SomeOf-map P Q xs to w = record { place = w.place; element = w.element; there = w.there; has = to w.element w.has }
+
+-- ---- the first element of a list, and those behind it
+
+pub some_first : {A : Type 0} (P : A → Type 0) (x : A) (xs : List A) → SomeOf P (x ∷ xs) ↔ (P x ⊎ SomeOf P xs)
+some_first P x xs = (
+  λ w. by w.place w.element w.there w.has,
+  λ e. elim e [
+    | inl p ↦ record { place = 0; element = x; there = refl; has = p }
+    | inr w ↦ record { place = suc w.place; element = w.element; there = w.there; has = w.has }
+  ],
+)
+  where
+    by : (place : ℕ) (y : _) → slice_get (x ∷ xs) place ≡ Some y → P y → P x ⊎ SomeOf P xs
+    by zero y there has = let same : y ≡ x = cc in inl (subst P same has)
+    by (suc n) y there has = inr (record { place = n; element = y; there = there; has = has })
 
 -- ---- an element that is put in its place
 

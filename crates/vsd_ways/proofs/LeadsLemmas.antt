@@ -10,7 +10,7 @@ use Rattle.vsd_ast.specs.Hierarchy.{IsHierarchy}
 use Rattle.vsd_ast.specs.Lookup.{place_of}
 use Rattle.vsd_lift.proofs.Forms.{Named-name, Named-arguments}
 use Rattle.vsd_ways.specs.Found.{SomeOf}
-use Rattle.vsd_ways.specs.Known.{MeetsOne}
+use Rattle.vsd_ways.specs.Known.{MeetsFor, Way}
 use Rattle.vsd_ways.specs.Leads.{LeadsTo, Path, Requires}
 use Rattle.vsd_ways.specs.Ways.{IsWays}
 
@@ -89,6 +89,6 @@ leads-step ds owner name args x declared = (λ way. by way.0 way.1, back)
     )
 
 -- what the ways of an interface tell of a type of its name
-pub leads-named : (ds : List Decl) (owner : Term) (name : ℕ) (args : List Term) (x : Decl) (ways : List _) → slice_get ds (place_of ds name) ≡ Some x → IsWays ds owner x ways → length args ≡ length x.params → MeetsOne ways args ↔ LeadsTo ds (Named name args) owner
-leads-named ds owner name args x ways declared are long =
-    subst (λ (k : ℕ). MeetsOne ways args ↔ LeadsTo ds (Named k args) owner) (place_of-name ds name x declared) (are.exact args long)
+pub leads-named : (ds : List Decl) (owners : List Term) (o : ℕ) (owner : Term) (name : ℕ) (args : List Term) (x : Decl) (ways : List Way) → slice_get owners o ≡ Some owner → slice_get ds (place_of ds name) ≡ Some x → IsWays ds owners x ways → length args ≡ length x.params → MeetsFor ways o args ↔ LeadsTo ds (Named name args) owner
+leads-named ds owners o owner name args x ways asked declared are long =
+    subst (λ (k : ℕ). MeetsFor ways o args ↔ LeadsTo ds (Named k args) owner) (place_of-name ds name x declared) (are.exact o owner asked args long)

@@ -1,7 +1,11 @@
--- What is known of the arguments of a type, place by place.
-use Rattle.std.specs.Prelude.{◌≡◌, ℕ, ◌<◌, List, map, length, Option, Some, None, slice_get}
+-- What is known of the arguments of a type, place by place, and for which owners.
+use Rattle.std.specs.Prelude.{◌≡◌, ℕ, ◌<◌, Bool, true, List, map, take, length, Option, Some, None, slice_get}
+use Rattle.std.specs.Cmp.Lexicographic.{pointwise}
+use Rattle.std.specs.Option.{option_eq}
 use Rattle.std.specs.Global.{Vec}
+use denote.Ref.{Bor}
 use Rattle.vsd_terms.specs.declared.term.Term.{Term}
+use Rattle.vsd_terms.specs.Equality.{term_eq}
 use Rattle.vsd_ways.specs.Found.{SomeOf}
 
 -- the argument is the one that is wanted, where one is
@@ -22,9 +26,29 @@ abbrev pub MeetsSome : Option (Vec (Option Term)) → List Term → Type 0
 MeetsSome None args = ⊥
 MeetsSome (Some known) args = Meets known.items args
 
--- the arguments meet one of these
-abbrev pub MeetsOne : List (List (Option Term)) → List Term → Type 0
-MeetsOne ways args = SomeOf (λ known. Meets known args) ways
+-- the row of marks has one for the owner of this number
+abbrev pub IsMarked : List Bool → ℕ → Type 0
+IsMarked marks o = slice_get marks o ≡ Some true
 
-abbrev pub knowns_in : List (Vec (Option Term)) → List (List (Option Term))
-knowns_in keys = map (λ key. key.items) keys
+-- a way: what is known of the arguments, and the row of marks of the owners for which it is one
+abbrev pub Way : Type 0
+Way = List (Option Term) × List Bool
+
+-- the way is one for the owner of this number, and the arguments meet it
+abbrev pub Serves : ℕ → List Term → Way → Type 0
+Serves o args way = IsMarked way.1 o × Meets way.0 args
+
+-- the arguments meet a way that is marked for the owner of this number
+abbrev pub MeetsFor : List Way → ℕ → List Term → Type 0
+MeetsFor ways o args = SomeOf (Serves o args) ways
+
+abbrev pub ways_in : List (Vec (Option Term) × List Bool) → List Way
+ways_in entries = map (λ e. (e.0.items, e.1)) entries
+
+-- what `==` of what is known computes
+abbrev pub same_known : List (Option Term) → List (Option Term) → Bool
+same_known = pointwise (option_eq term_eq)
+
+-- the owners that are asked for at once: the first 64 of these
+unfoldable pub owners_in : List (Bor Term) → List Term
+owners_in owners = take 64 (map (λ owner. owner.now) owners)

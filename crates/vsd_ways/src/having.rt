@@ -1,5 +1,5 @@
 //! Whether a class has an interface.
-ghost use Rattle.std.specs.Prelude.{◌≡◌, ℕ, ◌<◌, ◌≤◌, ◌↔◌, length, map, slice_get, Some, IsTrue};
+ghost use Rattle.std.specs.Prelude.{◌≡◌, ℕ, ◌<◌, ◌≤◌, ◌↔◌, ◌⊎◌, List, length, map, slice_get, Some, IsTrue};
 ghost use Rattle.vsd_terms.specs.declared.term.Term.{Term};
 ghost use Rattle.vsd_ast.specs.declared.declarations.Decl.{Decl};
 ghost use Rattle.vsd_ast.specs.declared.declarations.Located.{Located};
@@ -10,11 +10,12 @@ ghost use Rattle.vsd_lift.specs.Chain.{envs_of};
 ghost use Rattle.vsd_lift.specs.Lift.{lift, AllFit, Fits, IsLadder};
 ghost use Rattle.vsd_lift.specs.Settled.{IsSettled};
 ghost use Rattle.vsd_ways.specs.Found.{SomeOf};
-ghost use Rattle.vsd_ways.specs.Known.{Meets, MeetsOne, Wants};
+ghost use Rattle.vsd_ways.specs.Known.{IsMarked, Meets, MeetsFor, Wants};
 ghost use Rattle.vsd_ways.specs.Leads.{HasInterface, IsUpward, LeadsTo};
 ghost use Rattle.vsd_ways.specs.Ways.{AreWays};
 
 use crate::Ways;
+use crate::marks::{Marks, join};
 use vsd_ast::Decl;
 use vsd_lift::{Hierarchy, same_up};
 use vsd_terms::{Term, Terms};
@@ -62,24 +63,39 @@ fn meets(
     true
 }
 
-// Whether arguments of a class above meet one of the ways.
-fn meets_one(ways: &Ways, decls: &[Decl], chain: &[usize], level: usize, args: &Terms) -> bool
+// Marks the owners of the ways that arguments of a class above meet.
+fn mark_met(
+    ways: &Ways,
+    decls: &[Decl],
+    chain: &[usize],
+    level: usize,
+    args: &Terms,
+    found: &mut Marks,
+)
     requires ladder { IsLadder decls.now chain.now }
     requires within { level ≤ length chain.now }
     requires fit { AllFit (envs_of decls.now chain.now) level args.now }
-    ensures { IsTrue result ↔ MeetsOne ways.now (map (lift (envs_of decls.now chain.now) level) args.now) }
+    ensures { (o : ℕ) → IsMarked found.new o ↔ (IsMarked found.old o
+        ⊎ MeetsFor ways.now o (map (lift (envs_of decls.now chain.now) level) args.now)) }
 {
-    let ways = ways.as_slice();
     for i in 0..ways.len() {
-        if meets(ways[i].as_slice(), decls, chain, level, args.as_slice()) {
-            return true;
+        let (known, marks) = ways.at(i);
+        if !meets(known.as_slice(), decls, chain, level, args.as_slice()) {
+            continue;
         }
+        join(found, marks);
     }
-    false
 }
 
-// Whether an interface that the class at a level names leads to the owner.
-fn leads(h: &Hierarchy<'_>, chain: &[usize], level: usize, named: &Term, table: &[Ways]) -> bool
+// Marks the owners to which an interface that the class at a level names leads.
+fn mark_named(
+    h: &Hierarchy<'_>,
+    chain: &[usize],
+    level: usize,
+    named: &Term,
+    table: &[Ways],
+    found: &mut Marks,
+)
     requires settled { IsSettled h.now.decls.now h.now.places.now h.now.depths.now }
     requires ladder { IsLadder h.now.decls.now chain.now }
     requires within { level ≤ length chain.now }
@@ -88,50 +104,49 @@ fn leads(h: &Hierarchy<'_>, chain: &[usize], level: usize, named: &Term, table: 
     requires lawful { IsTrue (is_lawful h.now.decls.now named.now) }
     requires interface { IsInterface h.now.decls.now (head_of named.now) }
     requires count { length table.now ≡ length h.now.decls.now }
-    ensures { (owner : Term) → AreWays h.now.decls.now owner table.now → (IsTrue result
-        ↔ LeadsTo h.now.decls.now (lift (envs_of h.now.decls.now chain.now) level named.now) owner) }
+    ensures { (owners : List Term) → AreWays h.now.decls.now owners table.now →
+        (o : ℕ) (owner : Term) → slice_get owners o ≡ Some owner → IsMarked found.new o ↔ (IsMarked found.old o
+        ⊎ LeadsTo h.now.decls.now (lift (envs_of h.now.decls.now chain.now) level named.now) owner) }
 {
     let Term::Named { name, args } = named else {
-        return false;
+        return;
     };
     let place = h.places[*name as usize];
-    meets_one(&table[place as usize], h.decls, chain, level, args)
+    mark_met(&table[place as usize], h.decls, chain, level, args, found);
 }
 
-// Whether the class at a level names an interface that leads to the owner.
-fn names_one(h: &Hierarchy<'_>, chain: &[usize], level: usize, table: &[Ways]) -> bool
+// The same for each interface that it names.
+fn mark_level(h: &Hierarchy<'_>, chain: &[usize], level: usize, table: &[Ways], found: &mut Marks)
     requires settled { IsSettled h.now.decls.now h.now.places.now h.now.depths.now }
     requires upward { IsUpward h.now.decls.now chain.now }
     requires within { level < length chain.now }
     requires count { length table.now ≡ length h.now.decls.now }
-    ensures { (owner : Term) → AreWays h.now.decls.now owner table.now →
+    ensures { (owners : List Term) → AreWays h.now.decls.now owners table.now →
         (n : ℕ) → slice_get chain.now level ≡ Some n →
-        (class : Decl) → slice_get h.now.decls.now n ≡ Some class → (IsTrue result
-        ↔ SomeOf (λ (i : Located). LeadsTo h.now.decls.now
+        (class : Decl) → slice_get h.now.decls.now n ≡ Some class →
+        (o : ℕ) (owner : Term) → slice_get owners o ≡ Some owner → IsMarked found.new o ↔ (IsMarked found.old o
+        ⊎ SomeOf (λ (i : Located). LeadsTo h.now.decls.now
         (lift (envs_of h.now.decls.now chain.now) level i.term) owner) class.interfaces) }
 {
     let interfaces = h.decls[chain[level]].interfaces.as_slice();
     for i in 0..interfaces.len() {
-        if leads(h, chain, level, &interfaces[i].term, table) {
-            return true;
-        }
+        mark_named(h, chain, level, &interfaces[i].term, table, found);
     }
-    false
 }
 
-/// Whether the lowest class of a chain has the interface whose ways these are: whether a class of the chain names an
-/// interface that leads to it (ECMA-335, II.12.1). Takes no memory.
-pub fn has_interface(h: &Hierarchy<'_>, chain: &[usize], table: &[Ways]) -> bool
+/// For each of the owners whose ways these are whether the lowest class of a chain has it: whether a class of the chain
+/// names an interface that leads to it (ECMA-335, II.12.1). Takes no memory.
+pub fn has_interfaces(h: &Hierarchy<'_>, chain: &[usize], table: &[Ways]) -> Marks
     requires settled { IsSettled h.now.decls.now h.now.places.now h.now.depths.now }
     requires upward { IsUpward h.now.decls.now chain.now }
     requires count { length table.now ≡ length h.now.decls.now }
-    ensures { (owner : Term) → AreWays h.now.decls.now owner table.now →
-        (IsTrue result ↔ HasInterface h.now.decls.now chain.now owner) }
+    ensures { (owners : List Term) → AreWays h.now.decls.now owners table.now →
+        (o : ℕ) (owner : Term) → slice_get owners o ≡ Some owner →
+        IsMarked result o ↔ HasInterface h.now.decls.now chain.now owner }
 {
+    let mut found = [false; 64];
     for level in 0..chain.len() {
-        if names_one(h, chain, level, table) {
-            return true;
-        }
+        mark_level(h, chain, level, table, &mut found);
     }
-    false
+    found
 }

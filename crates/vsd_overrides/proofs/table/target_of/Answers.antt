@@ -1,15 +1,20 @@
 use Rattle.std.proofs.Common.{sym, ◌∙◌}
 use Rattle.std.proofs.lemmas.Bool.{false≢true}
-use Rattle.std.proofs.lemmas.Option.{slice_get_within}
 use Rattle.vsd_overrides.proofs.KnownLemmas.{has_on}
 use Rattle.vsd_overrides.proofs.table.target_of.Goals as goal
 
-pub has_owner-requires-clause-upward : goal.has_owner-requires-clause-upward
-has_owner-requires-clause-upward c = record { from = c.args.at; within = slice_get_within c.args.h.now.decls.now c.args.at c.args.decl.now c.requires.there; chained = c.requires.chained }
+pub returns-in_default : goal.returns-in_default
+returns-in_default c t w = c.in_default.ensures t w.means
 
-pub returns-in_default-clause-target : goal.returns-in_default-clause-target
-returns-in_default-clause-target c t w = c.in_default.ensures t w.means
+pub returns-then-not-is_had : goal.returns-then-not-is_had
+returns-then-not-is_had c t w =
+    let exact = c.is_had.ensures c.args.h.now.decls.now c.args.chain.now c.requires.known c.requires.told in
+    false≢true (sym c.if-not-is_had.true ∙ exact.1 (has_on c.args.h.now.decls.now c.args.chain.now c.args.at c.args.o.now.owner c.requires.chained w.has))
 
-pub returns-then-not-branch-clause-target : goal.returns-then-not-branch-clause-target
-returns-then-not-branch-clause-target c t w =
-    false≢true (sym c.if-not-branch.true ∙ c.in_ok-has_owner.ensures.has.1 (has_on c.args.h.now.decls.now c.args.chain.now c.args.at c.args.o.now.owner c.requires.chained w.has))
+pub returns : goal.returns
+returns c =
+    let exact = c.is_had.ensures c.args.h.now.decls.now c.args.chain.now c.requires.known c.requires.told in
+    record {
+      means = c.in-Some.ensures;
+      has = record { chain = c.args.chain.now; upward = c.requires.chained; has = exact.0 c.if-not-is_had.false };
+    }

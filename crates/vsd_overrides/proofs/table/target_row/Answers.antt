@@ -1,5 +1,4 @@
 use Rattle.std.proofs.Common.{◌≡◌, ℕ, ◌<◌, ◌≤◌, List, length, get_or, Some, IsSomeAnd, inl, inr, refl, sym, ap, ◌∙◌, subst, arith}
-use Rattle.std.specs.HashMap.{get}
 use Rattle.std.specs.List.{slice_get}
 use Rattle.std.proofs.lemmas.Bool.{cases_lt}
 use Rattle.std.proofs.lemmas.List.{length_push}
@@ -7,9 +6,15 @@ use Rattle.std.proofs.lemmas.Option.{get_or_from_slice_get, slice_get_read, slic
 use Rattle.vsd_ast.specs.declared.declarations.Decl.{Decl}
 use Rattle.vsd_ast.specs.declared.declarations.Override.{Override}
 use Rattle.vsd_lift.proofs.ChainLemmas.{slice_get-left, slice_get-seam}
-use Rattle.vsd_overrides.specs.Known.{AreKnown, same_owner}
 use Rattle.vsd_overrides.specs.Targets.{IsTarget}
 use Rattle.vsd_overrides.proofs.table.target_row.Goals as goal
+
+pub target_of-target-requires-clause-told : goal.target_of-target-requires-clause-told
+target_of-target-requires-clause-told c q same =
+    let all = c.as_slice-overrides.result.now in
+    let o = c.index-overrides-i.result in
+    let there : slice_get all c.loop-i.i ≡ Some o = slice_get_read all (length all) c.loop-i.i o refl c.loop-i-test.true c.index-overrides-i.is in
+    c.in_ok-known.ensures.each c.loop-i.i o there q same
 
 pub loop-i-preserved : goal.loop-i-preserved
 loop-i-preserved c =
@@ -19,11 +24,10 @@ loop-i-preserved c =
     let all = c.as_slice-overrides.result.now in
     let row = c.loop-i.row in
     let i = c.loop-i.i in
-    let t = c.in_ok-target.target in
+    let t = c.target_of-target.result in
     let count = c.loop-i.invariant.count in
     record {
       count = ap length c.in_ok-push.ensures.ok ∙ length_push row t ∙ omega (arith, count);
-      known = subst (λ (l : List ℕ). AreKnown ds l (get same_owner c.target_of.new.known)) c.as_slice.ensures.value c.in_ok-target.ensures.known;
       done = λ j o below there.
           let P = IsTarget ds at x in
           elim (cases_lt j i) [
@@ -36,7 +40,7 @@ loop-i-preserved c =
                 let put : slice_get c.push.new.self j ≡ Some t = ap (λ l. slice_get l j) c.in_ok-push.ensures.ok ∙ slice_get-seam row t j (omega (arith, count)) in
                 let read : slice_get all i ≡ Some c.index-overrides-i.result = slice_get_read all (length all) i c.index-overrides-i.result refl (omega arith) c.index-overrides-i.is in
                 let one : o ≡ c.index-overrides-i.result = let both = sym there ∙ ap (slice_get all) last ∙ read in cc in
-                subst (λ e. IsSomeAnd e (P o)) (sym put) (subst (λ (p : Override). P p t) (sym one) c.in_ok-target.ensures.target)
+                subst (λ e. IsSomeAnd e (P o)) (sym put) (subst (λ (p : Override). P p t) (sym one) c.target_of-target.ensures)
                 )
           ];
     }

@@ -1,15 +1,12 @@
--- The overrides before this one have their entries, and what is known of owners is so.
+-- The overrides before this one have their entries.
 use Rattle.std.proofs.Common.{◌≡◌, ◌<◌, ℕ, length, IsSomeAnd, Some}
-use Rattle.std.specs.HashMap.{get}
 use Rattle.std.specs.List.{slice_get}
 use Rattle.vsd_ast.specs.declared.declarations.Override.{Override}
-use Rattle.vsd_overrides.specs.Known.{AreKnown, same_owner}
 use Rattle.vsd_overrides.specs.Targets.{IsTarget}
 use Rattle.vsd_overrides.proofs.table.target_row.Given as goal
 
 abbrev pub invariant-loop-i : goal.invariant-loop-i
 invariant-loop-i l = record {
   count : length l.row ≡ l.i;
-  known : AreKnown l.h.decls.now l.upward.items (get same_owner l.known);
   done : (j : ℕ) (o : Override) → j < l.i → slice_get l.overrides j ≡ Some o → IsSomeAnd (slice_get l.row j) (IsTarget l.h.decls.now l.at l.decl o);
 }

@@ -1,11 +1,20 @@
-use Rattle.std.proofs.Common.{List, Option, ◌⊎◌, ◌↔◌, subst}
+use Rattle.std.proofs.Common.{◌≡◌, List, [], ◌∷◌, ◌++◌, Option, None, refl, sym, ap, ◌∙◌, subst, ◌⊎◌, ◌↔◌}
+use Rattle.std.specs.Global.{Vec}
+use Rattle.std.specs.Map.{lookup}
+use Rattle.indexmap.proofs.CallerLemmas.{insert_entry-new}
 use Rattle.vsd_terms.specs.declared.term.Term.{Term}
-use Rattle.vsd_ways.specs.Known.{knowns_in, Meets, MeetsOne}
-use Rattle.vsd_ways.proofs.WaysLemmas.{add_exact}
+use Rattle.vsd_ways.specs.Known.{same_known, ways_in, IsMarked, Meets, MeetsFor, Way}
+use Rattle.vsd_ways.proofs.WaysLemmas.{pushed_adds}
 use Rattle.vsd_ways.proofs.known.Ways.add.Goals as goal
 
-pub returns : goal.returns
-returns c args =
-    let known = c.args.known.items in
-    let P : List (List (Option Term)) → Type 0 = λ old. MeetsOne (knowns_in c.insert.new.self.keys) args ↔ (MeetsOne old args ⊎ Meets known args) in
-    subst P c.self.view_is (add_exact c.self.inside.set.keys c.insert.new.self.keys c.args.known args c.in_ok-insert.ensures.keys)
+pub returns-in_ok-insert : goal.returns-in_ok-insert
+returns-in_ok-insert c o args =
+    let known = c.args.known in
+    let marks = c.args.marks.now in
+    let old = c.self.inside.ways in
+    let kept = c.join_known.ensures.same c.if-not-join_known.true in
+    let none = c.join_known.ensures.absent c.if-not-join_known.true in
+    let absent : lookup (λ (key : Vec (Option Term)). same_known known.items key.items) c.join_known.new.ways.entries ≡ None = subst (λ (l : List (Option Term)). lookup (λ (key : Vec (Option Term)). same_known l key.items) c.join_known.new.ways.entries ≡ None) c.as_slice.ensures.value (subst (λ m. lookup (λ (key : Vec (Option Term)). same_known c.as_slice.result.now key.items) m.entries ≡ None) (sym kept) none) in
+    let entries : c.insert.new.self.entries ≡ old.entries ++ (known, marks) ∷ [] = c.in_ok-insert.ensures.entries ∙ insert_entry-new (λ (a b : Vec (Option Term)). same_known a.items b.items) c.join_known.new.ways known marks absent ∙ ap (λ m. m.entries ++ (known, marks) ∷ []) kept in
+    let P : List Way → Type 0 = λ ways. MeetsFor (ways_in c.insert.new.self.entries) o args ↔ (MeetsFor ways o args ⊎ (IsMarked marks o × Meets known.items args)) in
+    subst P c.self.view_is (pushed_adds known.items marks old.entries c.insert.new.self.entries known refl entries o args)

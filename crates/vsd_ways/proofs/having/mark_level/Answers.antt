@@ -1,6 +1,5 @@
-use Rattle.std.proofs.Common.{◌≡◌, ℕ, ◌<◌, List, length, get_or, ap, ◌∙◌, sym, subst, Some, ◌↔◌, true, false, IsTrue, arith}
+use Rattle.std.proofs.Common.{◌≡◌, ℕ, ◌<◌, List, length, get_or, ap, ◌∙◌, sym, subst, Some, ◌↔◌, ◌⊎◌, inl, inr, arith}
 use Rattle.std.specs.List.{slice_get}
-use Rattle.std.proofs.lemmas.Bool.{false≢true}
 use Rattle.std.proofs.lemmas.Option.{slice_get-get_or, slice_get_within, get_or_from_slice_get}
 use Rattle.vsd_ast.specs.declared.declarations.Decl.{Decl}
 use Rattle.vsd_ast.specs.declared.declarations.Located.{Located}
@@ -8,10 +7,11 @@ use Rattle.vsd_lift.specs.Chain.{envs_of}
 use Rattle.vsd_lift.specs.Lift.{lift}
 use Rattle.vsd_lift.specs.Settled.{IsSettled}
 use Rattle.vsd_ways.specs.Found.{SomeOf}
+use Rattle.vsd_ways.specs.Known.{IsMarked}
 use Rattle.vsd_ways.specs.Leads.{IsUpward, LeadsTo}
 use Rattle.vsd_ways.proofs.ClassLemmas.{NamesAt, class_at, names_at, upward_ladder}
-use Rattle.vsd_ways.proofs.FoundLemmas.{none-more, not-found, found-here}
-use Rattle.vsd_ways.proofs.having.names_one.Goals as goal
+use Rattle.vsd_ways.proofs.FoundLemmas.{before-split, before-more, before-here, some-before, before-all}
+use Rattle.vsd_ways.proofs.having.mark_level.Goals as goal
 
 -- the number at a level is that of a declaration
 number_within : (ds : List Decl) (places depths chain : List ℕ) (level : ℕ) → IsSettled ds places depths → IsUpward ds chain → level < length chain → get_or chain level 0 < length ds
@@ -40,28 +40,28 @@ offset_bounds-h-chain c =
     let inside = number_within h.decls.now h.places.now h.depths.now c.args.chain.now c.args.level c.requires.settled c.requires.upward c.requires.within in
     omega (arith, inside, c.requires.settled.few)
 
-pub leads-requires-clause-ladder : goal.leads-requires-clause-ladder
-leads-requires-clause-ladder c =
+pub mark_named-requires-clause-ladder : goal.mark_named-requires-clause-ladder
+mark_named-requires-clause-ladder c =
     let h = c.args.h.now in
     upward_ladder h.decls.now h.places.now h.depths.now c.args.chain.now c.requires.settled c.requires.upward
 
-pub leads-requires-clause-fits : goal.leads-requires-clause-fits
-leads-requires-clause-fits c =
+pub mark_named-requires-clause-fits : goal.mark_named-requires-clause-fits
+mark_named-requires-clause-fits c =
     let h = c.args.h.now in
     (reads h.decls.now h.places.now h.depths.now c.args.chain.now c.args.level c.index-h-chain.result c.as_slice-interfaces.result.now c.loop-i.i c.index-interfaces-i.result c.requires.settled c.requires.upward c.requires.within c.as_slice-interfaces.ensures c.loop-i-test.true).fits
 
-pub leads-requires-clause-names : goal.leads-requires-clause-names
-leads-requires-clause-names c =
+pub mark_named-requires-clause-names : goal.mark_named-requires-clause-names
+mark_named-requires-clause-names c =
     let h = c.args.h.now in
     (reads h.decls.now h.places.now h.depths.now c.args.chain.now c.args.level c.index-h-chain.result c.as_slice-interfaces.result.now c.loop-i.i c.index-interfaces-i.result c.requires.settled c.requires.upward c.requires.within c.as_slice-interfaces.ensures c.loop-i-test.true).by.names
 
-pub leads-requires-clause-lawful : goal.leads-requires-clause-lawful
-leads-requires-clause-lawful c =
+pub mark_named-requires-clause-lawful : goal.mark_named-requires-clause-lawful
+mark_named-requires-clause-lawful c =
     let h = c.args.h.now in
     (reads h.decls.now h.places.now h.depths.now c.args.chain.now c.args.level c.index-h-chain.result c.as_slice-interfaces.result.now c.loop-i.i c.index-interfaces-i.result c.requires.settled c.requires.upward c.requires.within c.as_slice-interfaces.ensures c.loop-i-test.true).by.lawful
 
-pub leads-requires-clause-interface : goal.leads-requires-clause-interface
-leads-requires-clause-interface c =
+pub mark_named-requires-clause-interface : goal.mark_named-requires-clause-interface
+mark_named-requires-clause-interface c =
     let h = c.args.h.now in
     (reads h.decls.now h.places.now h.depths.now c.args.chain.now c.args.level c.index-h-chain.result c.as_slice-interfaces.result.now c.loop-i.i c.index-interfaces-i.result c.requires.settled c.requires.upward c.requires.within c.as_slice-interfaces.ensures c.loop-i-test.true).by.interface
 
@@ -71,29 +71,34 @@ class_is ds chain level n x d interfaces stands here are =
     let number : get_or chain level 0 ≡ n = get_or_from_slice_get chain level n 0 stands in
     are ∙ ap (λ (k : ℕ). (get_or ds k d).interfaces) number ∙ ap (λ (y : Decl). y.interfaces) (get_or_from_slice_get ds n x d here)
 
-pub returns-then-leads : goal.returns-then-leads
-returns-then-leads c owner are n stands class here =
-    let ds = c.args.h.now.decls.now in
-    let i = c.loop-i.i in
-    let interfaces = c.as_slice-interfaces.result.now in
-    let P : Located → Type 0 = λ u. LeadsTo ds (lift (envs_of ds c.args.chain.now) c.args.level u.term) owner in
-    let Q : List Located → Type 0 = λ l. IsTrue true ↔ SomeOf P l in
-    subst Q (class_is ds c.args.chain.now c.args.level n class c.index-h-chain.result interfaces stands here c.as_slice-interfaces.ensures)
-    (found-here P interfaces i (get_or interfaces i c.index-interfaces-i.result) (slice_get-get_or interfaces i c.index-interfaces-i.result c.loop-i-test.true) ((c.leads.ensures owner are).0 c.if-leads.true))
-
 pub loop-i-preserved : goal.loop-i-preserved
-loop-i-preserved c owner are =
+loop-i-preserved c owners are o owner asked =
     let ds = c.args.h.now.decls.now in
     let i = c.loop-i.i in
     let interfaces = c.as_slice-interfaces.result.now in
     let P : Located → Type 0 = λ u. LeadsTo ds (lift (envs_of ds c.args.chain.now) c.args.level u.term) owner in
-    none-more P interfaces i (get_or interfaces i c.index-interfaces-i.result) (slice_get-get_or interfaces i c.index-interfaces-i.result c.loop-i-test.true) (c.loop-i.invariant owner are) (λ l. false≢true (sym c.if-leads.false ∙ (c.leads.ensures owner are).1 l))
+    let t = get_or interfaces i c.index-interfaces-i.result in
+    let there = slice_get-get_or interfaces i c.index-interfaces-i.result c.loop-i-test.true in
+    let now = c.mark_named.ensures owners are o owner asked in
+    let before = c.loop-i.invariant owners are o owner asked in (
+      λ m. elim (now.0 m) [
+        | inl w ↦ (elim (before.0 w) [ inl old ↦ inl old | inr b ↦ inr (before-more P interfaces i b) ])
+        | inr l ↦ inr (before-here P interfaces i t there l)
+      ],
+      λ e. now.1 (elim e [
+        | inl old ↦ inl (before.1 (inl old))
+        | inr b ↦ (elim (before-split P interfaces i t there b) [ inl w ↦ inl (before.1 (inr w)) | inr l ↦ inr l ])
+      ]),
+    )
 
 pub returns : goal.returns
-returns c owner are n stands class here =
+returns c owners are n stands class here o owner asked =
     let ds = c.args.h.now.decls.now in
     let interfaces = c.as_slice-interfaces.result.now in
     let P : Located → Type 0 = λ u. LeadsTo ds (lift (envs_of ds c.args.chain.now) c.args.level u.term) owner in
-    let Q : List Located → Type 0 = λ l. IsTrue false ↔ SomeOf P l in
-    subst Q (class_is ds c.args.chain.now c.args.level n class c.index-h-chain.result interfaces stands here c.as_slice-interfaces.ensures)
-    (not-found P interfaces c.loop-i.i (omega arith) (c.loop-i.invariant owner are))
+    let exact = c.loop-i.invariant owners are o owner asked in
+    let Q : List Located → Type 0 = λ l. IsMarked c.loop-i.found o ↔ (IsMarked c.args.found.now o ⊎ SomeOf P l) in
+    subst Q (class_is ds c.args.chain.now c.args.level n class c.index-h-chain.result interfaces stands here c.as_slice-interfaces.ensures) (
+      λ m. elim (exact.0 m) [ inl old ↦ inl old | inr b ↦ inr (some-before P interfaces c.loop-i.i b) ],
+      λ e. exact.1 (elim e [ inl old ↦ inl old | inr s ↦ inr (before-all P interfaces c.loop-i.i (omega arith) s) ]),
+    )
