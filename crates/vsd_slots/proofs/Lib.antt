@@ -6,6 +6,7 @@ pub mod FirstLaws
 pub mod GivenLaws
 pub mod NameLaws
 pub mod NumberLaws
+pub mod PlaceLaws
 pub mod RankLaws
 pub mod ReachLaws
 pub mod RowLaws

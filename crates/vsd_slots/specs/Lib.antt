@@ -10,6 +10,7 @@ pub mod Interfaces
 pub mod Lineage
 pub mod Methods
 pub mod Missing
+pub mod Places
 pub mod Reaching
 pub mod Refusals
 pub mod Rows

@@ -4,7 +4,7 @@
 //! virtual method of the class by name and signature, then what its base has, then such a method of a class above.
 #![tactic(auto)]
 
-mod adding;
+mod collected;
 mod columns;
 mod counting;
 mod declared;

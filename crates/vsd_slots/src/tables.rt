@@ -5,30 +5,31 @@ ghost use Rattle.vsd_check.specs.Checked.{decls_of, depths_of};
 ghost use Rattle.vsd_slots.specs.Ranks.{AreRanks};
 ghost use Rattle.vsd_slots.specs.Tables.{AreOwn, AreRows, AreRowsTo, IsFilled, IsMapFrom, IsReachedFrom};
 
-use crate::adding::add_all;
+use crate::collected::Collected;
 use crate::ranks::{greatest_rank, ranks};
-use indexmap::IndexSet;
 use sqlite_items::Items;
 use std::alloc::{AllocError, Global};
 use vsd_check::Checked;
 use vsd_types::Closed;
 
-// The interfaces that a type reaches, from the rows of those that it names.
+// The interfaces that a type reaches, from the rows of those that it names. They are left in `set` too.
 fn reached_row(
     alloc: Global,
     closed: &Closed,
     rows: &[Items<u16>],
     t: u16,
+    set: &mut Collected,
 ) -> Result<Items<u16>, AllocError>
     requires count { length rows.now ≡ length closed.now.types }
     requires within { t < length closed.now.types }
-    ensures { IfOk result (IsReachedFrom closed.now rows.now t) }
+    ensures row { IfOk result (IsReachedFrom closed.now rows.now t) }
+    ensures left { IfOk result (λ row. set.new ≡ row) }
 {
-    let mut set = IndexSet::new(alloc);
+    set.clear();
     let named = closed.named(t);
     for interface in named {
-        set.insert(*interface)?;
-        add_all(&mut set, rows[*interface as usize].as_slice())?;
+        set.add(*interface)?;
+        set.add_all(rows[*interface as usize].as_slice())?;
     }
     Items::from_slice(alloc, set.as_slice())
 }
@@ -45,22 +46,31 @@ pub(crate) fn own<'a>(closed: &Closed, reached: &'a [Items<u16>], t: u16) -> &'a
     reached[t as usize].as_slice()
 }
 
-// The interfaces of a class and of those above it, from its own and the row of its base.
+// Leaves those that a class has itself, of those that it reaches. No other type has any.
+fn leave_own(closed: &Closed, t: u16, set: &mut Collected)
+    requires { t < length closed.now.types }
+    ensures { AreOwn closed.now set.old t set.new }
+{
+    if closed.is_interface(t) {
+        set.clear();
+    }
+}
+
+// The interfaces of a class and of those above it, from its own, which are those of `set`, and the row of its base.
 fn map_row(
     alloc: Global,
     closed: &Closed,
-    own: &[u16],
     rows: &[Items<u16>],
     t: u16,
+    set: &mut Collected,
 ) -> Result<Items<u16>, AllocError>
     requires count { length rows.now ≡ length closed.now.types }
     requires within { t < length closed.now.types }
-    ensures { IfOk result (IsMapFrom closed.now own.now rows.now t) }
+    ensures { IfOk result (IsMapFrom closed.now set.old rows.now t) }
 {
-    let mut set = IndexSet::new(alloc);
-    add_all(&mut set, own)?;
+    let _own = set.as_slice();
     if let Some(base) = closed.base(t) {
-        add_all(&mut set, rows[base as usize].as_slice())?;
+        set.add_all(rows[base as usize].as_slice())?;
     }
     Items::from_slice(alloc, set.as_slice())
 }
@@ -85,17 +95,23 @@ fn empty_rows(alloc: Global, count: u16) -> Result<Items<Items<u16>>, AllocError
     Ok(rows)
 }
 
-// Fills the rows of one type.
-fn fill(alloc: Global, closed: &Closed, t: u16, table: &mut Table) -> Result<(), AllocError>
+// Fills the rows of one type. What `set` has before and after is of no matter.
+fn fill(
+    alloc: Global,
+    closed: &Closed,
+    t: u16,
+    table: &mut Table,
+    set: &mut Collected,
+) -> Result<(), AllocError>
     requires within { t < length closed.now.types }
     requires reached_count { length table.old.reached ≡ length closed.now.types }
     requires maps_count { length table.old.maps ≡ length closed.now.types }
     ensures { OnOk result (IsFilled closed.now t table.old.reached table.old.maps table.new.reached table.new.maps) }
 {
-    let row = reached_row(alloc, closed, table.reached.as_slice(), t)?;
+    let row = reached_row(alloc, closed, table.reached.as_slice(), t, set)?;
     table.reached.set(t as usize, row);
-    let own = own(closed, table.reached.as_slice(), t);
-    let row = map_row(alloc, closed, own, table.maps.as_slice(), t)?;
+    leave_own(closed, t, set);
+    let row = map_row(alloc, closed, table.maps.as_slice(), t, set)?;
     table.maps.set(t as usize, row);
     Ok(())
 }
@@ -108,6 +124,7 @@ fn fill_rank(
     ranks: &[u32],
     rank: u32,
     table: &mut Table,
+    set: &mut Collected,
 ) -> Result<(), AllocError>
     requires hierarchy { IsHierarchy closed.now.decls.list (depths_of checked.now) }
     requires ranks { AreRanks closed.now.decls.list (depths_of checked.now) closed.now.types ranks.now }
@@ -118,7 +135,7 @@ fn fill_rank(
         if ranks[t as usize] != rank {
             continue;
         }
-        fill(alloc, closed, t, table)?;
+        fill(alloc, closed, t, table, set)?;
     }
     Ok(())
 }
@@ -130,6 +147,7 @@ fn fill_all(
     closed: &Closed,
     ranks: &[u32],
     table: &mut Table,
+    set: &mut Collected,
 ) -> Result<(), AllocError>
     requires hierarchy { IsHierarchy closed.now.decls.list (depths_of checked.now) }
     requires ranks { AreRanks closed.now.decls.list (depths_of checked.now) closed.now.types ranks.now }
@@ -138,7 +156,7 @@ fn fill_all(
     ensures { OnOk result (AreRows closed.now (depths_of checked.now) table.new.reached table.new.maps) }
 {
     for rank in 0..u64::from(greatest_rank(ranks)) + 1 {
-        fill_rank(alloc, checked, closed, ranks, rank as u32, table)?;
+        fill_rank(alloc, checked, closed, ranks, rank as u32, table, set)?;
     }
     Ok(())
 }
@@ -154,10 +172,11 @@ pub(crate) fn tabulate(
 {
     let _decls = checked.decls();
     let found = ranks(alloc, checked, closed)?;
+    let mut set = Collected::new(alloc);
     let mut table = Table {
         reached: empty_rows(alloc, closed.count())?,
         maps: empty_rows(alloc, closed.count())?,
     };
-    fill_all(alloc, checked, closed, &found, &mut table)?;
+    fill_all(alloc, checked, closed, &found, &mut table, &mut set)?;
     Ok(table)
 }
