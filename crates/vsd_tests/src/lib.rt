@@ -2,6 +2,8 @@
 #![tactic(auto)]
 
 #[cfg(test)]
+mod builtin_types;
+#[cfg(test)]
 mod checking;
 #[cfg(test)]
 mod scripts;
