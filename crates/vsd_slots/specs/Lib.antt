@@ -7,9 +7,11 @@ pub mod Firsts
 pub mod Givens
 pub mod Implementation
 pub mod Interfaces
+pub mod Kept
 pub mod Lineage
 pub mod Methods
 pub mod Missing
+pub mod Ragged
 pub mod Reaching
 pub mod Refusals
 pub mod Rows
