@@ -4,9 +4,11 @@ pub mod EntryLaws
 pub mod FillLaws
 pub mod FirstLaws
 pub mod GivenLaws
+pub mod KeptLaws
 pub mod NameLaws
 pub mod NumberLaws
 pub mod PlaceLaws
+pub mod RaggedLaws
 pub mod RankLaws
 pub mod ReachLaws
 pub mod RowLaws

@@ -7,10 +7,12 @@ pub mod Firsts
 pub mod Givens
 pub mod Implementation
 pub mod Interfaces
+pub mod Kept
 pub mod Lineage
 pub mod Methods
 pub mod Missing
 pub mod Places
+pub mod Ragged
 pub mod Reaching
 pub mod Refusals
 pub mod Rows

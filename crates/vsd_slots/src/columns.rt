@@ -1,13 +1,17 @@
 //! What a class has for each method of an interface, from what its base has.
-ghost use Rattle.std.specs.Prelude.{◌≡◌, ◌<◌, ◌≤◌, None, Some, length, IfOk};
+ghost use Rattle.std.specs.Prelude.{◌≡◌, ◌<◌, ◌≤◌, None, Some, length, IfOk, OnOk, false};
 ghost use Rattle.vsd_check.specs.Checked.{decls_of, depths_of};
 ghost use Rattle.vsd_types.specs.Types.{base_of, type_at};
 ghost use Rattle.vsd_slots.specs.Columns.{AreEach, IsBlank, IsColumn};
 ghost use Rattle.vsd_slots.specs.Entries.{AreParts, IsCombined, IsHaving, IsStep};
 ghost use Rattle.vsd_slots.specs.Firsts.{AreMethodNames};
+ghost use Rattle.vsd_slots.specs.Kept.{AreKept};
+ghost use Rattle.vsd_slots.specs.Ragged.{Gains};
 
 use crate::counting::count_methods;
 use crate::entries::{Entry, NOTHING, Parts, combine, has_itself, is_bare, step};
+use crate::kept::Kept;
+use crate::ragged::Ragged;
 use sqlite_items::Items;
 use std::alloc::{AllocError, Global};
 use vsd_check::Checked;
@@ -25,20 +29,19 @@ fn blank(alloc: Global, count: u16) -> Result<Items<Entry>, AllocError>
     Ok(Items::from_vec(found))
 }
 
-// What a class without methods and overrides has.
-fn passed_on(alloc: Global, has: bool, above: &[Entry]) -> Result<Items<Entry>, AllocError>
-    ensures { IfOk result (AreEach (λ m. IsCombined None None has) (length above.now) above.now) }
+// Adds what a class without methods and overrides has.
+fn passed_on(has: bool, above: &[Entry], found: &mut Ragged) -> Result<(), AllocError>
+    ensures { OnOk result (Gains (AreEach (λ m. IsCombined None None has) (length above.now) above.now) found.old found.new) }
 {
-    let mut found = Vec::with_capacity(alloc, above.len())?;
+    found.begin()?;
     for m in 0..above.len() {
         found.push(combine(None, None, has, above[m]))?;
     }
-    Ok(Items::from_vec(found))
+    Ok(())
 }
 
-// What any class has.
+// Adds what any class has.
 fn stepped(
-    alloc: Global,
     checked: &Checked,
     closed: &Closed,
     parts: &Parts,
@@ -47,7 +50,8 @@ fn stepped(
     i: u16,
     has: bool,
     above: &[Entry],
-) -> Result<Items<Entry>, AllocError>
+    found: &mut Ragged,
+) -> Result<(), AllocError>
     requires together { closed.now.decls ≡ decls_of checked.now }
     requires parts { AreParts closed.now (depths_of checked.now) parts.now.table.reached parts.now.table.maps parts.now.given }
     requires names { AreMethodNames closed.now.decls.list names.now }
@@ -55,20 +59,19 @@ fn stepped(
     requires interface { i < length closed.now.types }
     requires having { IsHaving closed.now t i has }
     requires few { length above.now ≤ 256 }
-    ensures { IfOk result (AreEach (IsStep closed.now t i) (length above.now) above.now) }
+    ensures { OnOk result (Gains (AreEach (IsStep closed.now t i) (length above.now) above.now) found.old found.new) }
 {
-    let mut found = Vec::with_capacity(alloc, above.len())?;
+    found.begin()?;
     for m in 0..above.len() {
         let entry = step(checked, closed, parts, names, t, i, m as u16, has, above[m]);
         found.push(entry)?;
     }
-    Ok(Items::from_vec(found))
+    Ok(())
 }
 
-/// What class `t` has for the methods of interface `i`, from what its base has. `near` is where the interface may stand
+/// Adds what class `t` has for the methods of interface `i`, from what its base has. `near` is where the interface may stand
 /// among those of the class.
 pub(crate) fn column(
-    alloc: Global,
     checked: &Checked,
     closed: &Closed,
     parts: &Parts,
@@ -77,36 +80,92 @@ pub(crate) fn column(
     i: u16,
     near: usize,
     above: &[Entry],
-) -> Result<Items<Entry>, AllocError>
+    found: &mut Ragged,
+) -> Result<(), AllocError>
     requires together { closed.now.decls ≡ decls_of checked.now }
     requires parts { AreParts closed.now (depths_of checked.now) parts.now.table.reached parts.now.table.maps parts.now.given }
     requires names { AreMethodNames closed.now.decls.list names.now }
     requires class { t < length closed.now.types }
     requires interface { i < length closed.now.types }
     requires above { IsColumn closed.now (base_of closed.now.decls.list (type_at closed.now.types t)) i above.now }
-    ensures { IfOk result (IsColumn closed.now (Some (type_at closed.now.types t)) i) }
+    ensures { OnOk result (Gains (IsColumn closed.now (Some (type_at closed.now.types t)) i) found.old found.new) }
 {
-    let _few = count_methods(checked, closed, i);
     let has = has_itself(checked, closed, parts, t, i, near);
     if is_bare(checked, closed, parts, t) {
-        return passed_on(alloc, has, above);
+        return passed_on(has, above, found);
     }
-    stepped(alloc, checked, closed, parts, names, t, i, has, above)
+    let _few = count_methods(checked, closed, i);
+    stepped(checked, closed, parts, names, t, i, has, above, found)
 }
 
-/// What the base of class `t` has for the methods of interface `i`, from the top.
-pub(crate) fn column_above(
-    alloc: Global,
+// Makes of what the base of class `t` has what the class has, in place.
+fn step_each(
     checked: &Checked,
     closed: &Closed,
     parts: &Parts,
     names: &[Names],
     t: u16,
     i: u16,
+    has: bool,
+    column: &mut Items<Entry>,
+)
+    requires together { closed.now.decls ≡ decls_of checked.now }
+    requires parts { AreParts closed.now (depths_of checked.now) parts.now.table.reached parts.now.table.maps parts.now.given }
+    requires names { AreMethodNames closed.now.decls.list names.now }
+    requires class { t < length closed.now.types }
+    requires interface { i < length closed.now.types }
+    requires having { IsHaving closed.now t i has }
+    requires few { length column.old ≤ 256 }
+    ensures { AreEach (IsStep closed.now t i) (length column.old) column.old column.new }
+{
+    for m in 0..column.len() {
+        let above = column.as_slice()[m];
+        let entry = step(checked, closed, parts, names, t, i, m as u16, has, above);
+        column.set(m, entry);
+    }
+}
+
+// The same. A class with nothing of its own changes nothing.
+fn change(
+    checked: &Checked,
+    closed: &Closed,
+    parts: &Parts,
+    names: &[Names],
+    t: u16,
+    i: u16,
+    column: &mut Items<Entry>,
+)
+    requires together { closed.now.decls ≡ decls_of checked.now }
+    requires parts { AreParts closed.now (depths_of checked.now) parts.now.table.reached parts.now.table.maps parts.now.given }
+    requires names { AreMethodNames closed.now.decls.list names.now }
+    requires class { t < length closed.now.types }
+    requires interface { i < length closed.now.types }
+    requires above { IsColumn closed.now (base_of closed.now.decls.list (type_at closed.now.types t)) i column.old }
+    ensures { IsColumn closed.now (Some (type_at closed.now.types t)) i column.new }
+{
+    let has = has_itself(checked, closed, parts, t, i, 0);
+    if !has && is_bare(checked, closed, parts, t) {
+        return;
+    }
+    let _few = count_methods(checked, closed, i);
+    step_each(checked, closed, parts, names, t, i, has, column);
+}
+
+/// What the base of class `t` has for the methods of interface `i`, from the nearest class above of which that is kept.
+pub(crate) fn column_above(
+    alloc: Global,
+    checked: &Checked,
+    closed: &Closed,
+    parts: &Parts,
+    names: &[Names],
+    kept: &Kept,
+    t: u16,
+    i: u16,
 ) -> Result<Items<Entry>, AllocError>
     requires together { closed.now.decls ≡ decls_of checked.now }
     requires parts { AreParts closed.now (depths_of checked.now) parts.now.table.reached parts.now.table.maps parts.now.given }
     requires names { AreMethodNames closed.now.decls.list names.now }
+    requires kept { AreKept closed.now kept.now }
     requires class { t < length closed.now.types }
     requires interface { i < length closed.now.types }
     ensures { IfOk result (IsColumn closed.now (base_of closed.now.decls.list (type_at closed.now.types t)) i) }
@@ -114,18 +173,12 @@ pub(crate) fn column_above(
     match closed.base(t) {
         None => blank(alloc, count_methods(checked, closed, i)),
         Some(base) => {
-            let higher = column_above(alloc, checked, closed, parts, names, base, i)?;
-            column(
-                alloc,
-                checked,
-                closed,
-                parts,
-                names,
-                base,
-                i,
-                0,
-                higher.as_slice(),
-            )
+            if let Some(place) = kept.place(base, i) {
+                return Items::from_slice(alloc, kept.columns.list(place));
+            }
+            let mut found = column_above(alloc, checked, closed, parts, names, kept, base, i)?;
+            change(checked, closed, parts, names, base, i, &mut found);
+            Ok(found)
         }
     }
 }

@@ -4,16 +4,19 @@ ghost use Rattle.vsd_check.specs.Checked.{decls_of, depths_of};
 ghost use Rattle.vsd_types.specs.Types.{base_of, type_at};
 ghost use Rattle.vsd_slots.specs.Entries.{AreParts};
 ghost use Rattle.vsd_slots.specs.Firsts.{AreMethodNames};
+ghost use Rattle.vsd_slots.specs.Kept.{AreKept};
 ghost use Rattle.vsd_slots.specs.Refusals.{IsWithinLimit, IsWhole, Passes};
 ghost use Rattle.vsd_slots.specs.Rows.{AreRight, Fills, IsRow};
 ghost use Rattle.vsd_slots.specs.Slots.{AreMade, IsClassDone, IsRefusal};
 ghost use Rattle.vsd_slots.specs.Tables.{IsMap};
 
 use crate::counting::is_concrete;
-use crate::entries::{Entry, Parts};
+use crate::entries::Parts;
 use crate::error::SlotError;
+use crate::kept::Kept;
 use crate::method_names::method_names;
 use crate::missing::lacking;
+use crate::ragged::Ragged;
 use crate::rows::row;
 use sqlite_items::Items;
 use std::alloc::{AllocError, Global};
@@ -22,13 +25,13 @@ use vsd_terms::Names;
 use vsd_types::Closed;
 
 // So many rows that aren't made.
-fn no_rows(alloc: Global, count: u16) -> Result<Items<Items<Items<Entry>>>, AllocError>
+fn no_rows(alloc: Global, count: u16) -> Result<Items<Ragged>, AllocError>
     ensures count { IfOk result (λ rows. length rows ≡ count) }
     ensures none { IfOk result (λ rows. (t : ℕ) → t < count → slice_index_or rows t [] ≡ []) }
 {
     let mut rows = Items::new(alloc);
     for _ in 0..count {
-        rows.push(Items::new(alloc))?;
+        rows.push(Ragged::new(alloc))?;
     }
     Ok(rows)
 }
@@ -54,16 +57,28 @@ fn make(
     parts: &Parts,
     names: &[Names],
     t: u16,
-    rows: &mut Items<Items<Items<Entry>>>,
+    rows: &mut Items<Ragged>,
+    kept: &mut Kept,
 ) -> Result<(), AllocError>
     requires together { closed.now.decls ≡ decls_of checked.now }
     requires parts { AreParts closed.now (depths_of checked.now) parts.now.table.reached parts.now.table.maps parts.now.given }
     requires names { AreMethodNames closed.now.decls.list names.now }
     requires right { AreRight closed.now parts.now.table.maps rows.old }
+    requires kept { AreKept closed.now kept.old }
     requires class { t < length closed.now.types }
-    ensures { OnOk result (Fills closed.now parts.now.table.maps t rows.old rows.new) }
+    ensures fills { OnOk result (Fills closed.now parts.now.table.maps t rows.old rows.new) }
+    ensures kept { OnOk result (AreKept closed.now kept.new) }
 {
-    let made = row(alloc, checked, closed, parts, names, rows.as_slice(), t)?;
+    let made = row(
+        alloc,
+        checked,
+        closed,
+        parts,
+        names,
+        rows.as_slice(),
+        t,
+        kept,
+    )?;
     rows.set(t as usize, made);
     Ok(())
 }
@@ -77,24 +92,27 @@ fn fill(
     names: &[Names],
     end: u16,
     t: u16,
-    rows: &mut Items<Items<Items<Entry>>>,
+    rows: &mut Items<Ragged>,
+    kept: &mut Kept,
 ) -> Result<(), AllocError>
     requires together { closed.now.decls ≡ decls_of checked.now }
     requires parts { AreParts closed.now (depths_of checked.now) parts.now.table.reached parts.now.table.maps parts.now.given }
     requires names { AreMethodNames closed.now.decls.list names.now }
     requires right { AreRight closed.now parts.now.table.maps rows.old }
+    requires kept { AreKept closed.now kept.old }
     requires class { t < length closed.now.types }
-    ensures { OnOk result (Fills closed.now parts.now.table.maps t rows.old rows.new) }
+    ensures fills { OnOk result (Fills closed.now parts.now.table.maps t rows.old rows.new) }
+    ensures kept { OnOk result (AreKept closed.now kept.new) }
 {
-    if rows.as_slice()[t as usize].len() == parts.table.maps.as_slice()[t as usize].len() {
+    if rows.as_slice()[t as usize].count() == parts.table.maps.as_slice()[t as usize].len() {
         return Ok(());
     }
     match base_below(closed, t, end) {
         Some(base) => {
-            fill(alloc, checked, closed, parts, names, end, base, rows)?;
-            make(alloc, checked, closed, parts, names, t, rows)
+            fill(alloc, checked, closed, parts, names, end, base, rows, kept)?;
+            make(alloc, checked, closed, parts, names, t, rows, kept)
         }
-        None => make(alloc, checked, closed, parts, names, t, rows),
+        None => make(alloc, checked, closed, parts, names, t, rows, kept),
     }
 }
 
@@ -104,7 +122,7 @@ fn see_whole(
     closed: &Closed,
     t: u16,
     interfaces: &[u16],
-    row: &[Items<Entry>],
+    row: &Ragged,
 ) -> Result<(), SlotError>
     requires together { closed.now.decls ≡ decls_of checked.now }
     requires class { t < length closed.now.types }
@@ -135,23 +153,26 @@ fn fill_class(
     names: &[Names],
     end: u16,
     t: u16,
-    rows: &mut Items<Items<Items<Entry>>>,
+    rows: &mut Items<Ragged>,
+    kept: &mut Kept,
 ) -> Result<(), SlotError>
     requires together { closed.now.decls ≡ decls_of checked.now }
     requires parts { AreParts closed.now (depths_of checked.now) parts.now.table.reached parts.now.table.maps parts.now.given }
     requires names { AreMethodNames closed.now.decls.list names.now }
     requires right { AreRight closed.now parts.now.table.maps rows.old }
+    requires kept { AreKept closed.now kept.old }
     requires class { t < length closed.now.types }
     requires before { Passes closed.now t }
     requires within { IsWithinLimit closed.now t }
     ensures ok { OnOk result (IsClassDone closed.now parts.now.table.maps end t rows.old rows.new) }
+    ensures kept { OnOk result (AreKept closed.now kept.new) }
     ensures refused { IfErr result (IsRefusal closed.now) }
 {
     if end < closed.count() && !is_concrete(checked, closed, t) {
         return Ok(());
     }
-    fill(alloc, checked, closed, parts, names, end, t, rows)?;
-    let row = rows.as_slice()[t as usize].as_slice();
+    fill(alloc, checked, closed, parts, names, end, t, rows, kept)?;
+    let row = &rows.as_slice()[t as usize];
     let map = parts.table.maps.as_slice()[t as usize].as_slice();
     see_whole(checked, closed, t, map, row)?;
     Ok(())
@@ -164,7 +185,7 @@ pub(crate) fn fill_all(
     closed: &Closed,
     parts: &Parts,
     end: u16,
-) -> Result<Items<Items<Items<Entry>>>, SlotError>
+) -> Result<Items<Ragged>, SlotError>
     requires together { closed.now.decls ≡ decls_of checked.now }
     requires parts { AreParts closed.now (depths_of checked.now) parts.now.table.reached parts.now.table.maps parts.now.given }
     requires listed { end ≤ length closed.now.types }
@@ -175,6 +196,7 @@ pub(crate) fn fill_all(
 {
     let names = method_names(alloc, checked)?;
     let mut rows = no_rows(alloc, closed.count())?;
+    let mut kept = Kept::new(alloc);
     for t in 0..end {
         fill_class(
             alloc,
@@ -185,6 +207,7 @@ pub(crate) fn fill_all(
             end,
             t,
             &mut rows,
+            &mut kept,
         )?;
     }
     Ok(rows)

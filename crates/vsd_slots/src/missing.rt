@@ -6,7 +6,7 @@ ghost use Rattle.vsd_slots.specs.Missing.{IsFirstMissing, IsFirstNone, IsLacking
 
 use crate::counting::is_concrete;
 use crate::entries::Entry;
-use sqlite_items::Items;
+use crate::ragged::Ragged;
 use vsd_check::Checked;
 use vsd_types::Closed;
 
@@ -32,25 +32,21 @@ pub(crate) struct Slot {
 }
 
 /// The first slot without implementation, by interface and then by method.
-pub(crate) fn first_missing(row: &[Items<Entry>]) -> Option<Slot>
+pub(crate) fn first_missing(row: &Ragged) -> Option<Slot>
     requires { All (λ column. length column ≤ 256) row.now }
     ensures { IsFirstMissing row.now result }
 {
-    for place in 0..row.len() {
-        if let Some(method) = first_in(row[place].as_slice()) {
-            return Some(Slot { place, method });
+    for place in 0..row.count() {
+        match first_in(row.list(place)) {
+            Some(method) => return Some(Slot { place, method }),
+            None => {}
         }
     }
     None
 }
 
 /// The first slot that a class may not lack and does.
-pub(crate) fn lacking(
-    checked: &Checked,
-    closed: &Closed,
-    t: u16,
-    row: &[Items<Entry>],
-) -> Option<Slot>
+pub(crate) fn lacking(checked: &Checked, closed: &Closed, t: u16, row: &Ragged) -> Option<Slot>
     requires together { closed.now.decls ≡ decls_of checked.now }
     requires class { t < length closed.now.types }
     requires short { All (λ column. length column ≤ 256) row.now }

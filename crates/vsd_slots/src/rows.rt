@@ -1,14 +1,19 @@
 //! What a class has for the methods of each of its interfaces.
-ghost use Rattle.std.specs.Prelude.{◌≡◌, ◌<◌, ◌≤◌, All, IfOk, IfSome, [], Some, length, slice_index_or};
+ghost use Rattle.std.specs.Prelude.{◌≡◌, ◌<◌, ◌≤◌, All, IfOk, IfSome, OnOk, [], Some, length, slice_index_or};
 ghost use Rattle.vsd_check.specs.Checked.{decls_of, depths_of};
-ghost use Rattle.vsd_types.specs.Types.{type_at};
-ghost use Rattle.vsd_slots.specs.Columns.{IsColumn};
+ghost use Rattle.vsd_types.specs.Types.{base_of, type_at};
+ghost use Rattle.vsd_slots.specs.Columns.{IsBlank, IsColumn};
 ghost use Rattle.vsd_slots.specs.Entries.{AreParts};
 ghost use Rattle.vsd_slots.specs.Firsts.{AreMethodNames};
+ghost use Rattle.vsd_slots.specs.Kept.{AreKept, IsPlace};
+ghost use Rattle.vsd_slots.specs.Ragged.{Gains};
 ghost use Rattle.vsd_slots.specs.Rows.{AreRight, IsMade, IsRow};
 
 use crate::columns::{column, column_above};
-use crate::entries::{Entry, Parts};
+use crate::counting::{add_slots, count_methods};
+use crate::entries::{Entry, NOTHING, Parts};
+use crate::kept::Kept;
+use crate::ragged::Ragged;
 use crate::searching::place_near;
 use crate::tables::own;
 use sqlite_items::Items;
@@ -20,7 +25,7 @@ use vsd_types::Closed;
 // The entries of a type for an interface, where its row is made and has them. `near` is where the interface may stand.
 fn made_column<'a>(
     maps: &[Items<u16>],
-    rows: &'a [Items<Items<Entry>>],
+    rows: &'a [Ragged],
     t: u16,
     i: u16,
     near: usize,
@@ -30,51 +35,132 @@ fn made_column<'a>(
     ensures { IfSome result (λ column. IsMade maps.now rows.now t i column.now) }
 {
     let map = maps[t as usize].as_slice();
-    let row = rows[t as usize].as_slice();
-    if row.len() != map.len() {
+    let row = &rows[t as usize];
+    if row.count() != map.len() {
         return None;
     }
     let place = place_near(map, near, i)?;
-    Some(row[place].as_slice())
+    Some(row.list(place))
 }
 
-// What class `t` has for the methods of interface `i`.
-fn column_from(
+// The place of what the base of class `t` has for interface `i`, which is kept from now on.
+fn kept_place(
     alloc: Global,
     checked: &Checked,
     closed: &Closed,
     parts: &Parts,
     names: &[Names],
-    rows: &[Items<Items<Entry>>],
     t: u16,
+    base: u16,
+    i: u16,
+    kept: &mut Kept,
+) -> Result<usize, AllocError>
+    requires together { closed.now.decls ≡ decls_of checked.now }
+    requires parts { AreParts closed.now (depths_of checked.now) parts.now.table.reached parts.now.table.maps parts.now.given }
+    requires names { AreMethodNames closed.now.decls.list names.now }
+    requires kept { AreKept closed.now kept.old }
+    requires class { t < length closed.now.types }
+    requires within { base < length closed.now.types }
+    requires base { base_of closed.now.decls.list (type_at closed.now.types t) ≡ Some (type_at closed.now.types base) }
+    requires interface { i < length closed.now.types }
+    ensures kept { OnOk result (AreKept closed.now kept.new) }
+    ensures place { IfOk result (IsPlace kept.new base i) }
+{
+    if let Some(place) = kept.place(base, i) {
+        return Ok(place);
+    }
+    let above = column_above(alloc, checked, closed, parts, names, kept, t, i)?;
+    kept.keep(closed, base, i, above.as_slice())
+}
+
+// Adds what class `t`, which has a base, has for the methods of interface `i`.
+fn add_below(
+    alloc: Global,
+    checked: &Checked,
+    closed: &Closed,
+    parts: &Parts,
+    names: &[Names],
+    rows: &[Ragged],
+    t: u16,
+    base: u16,
     i: u16,
     near: usize,
-) -> Result<Items<Entry>, AllocError>
+    kept: &mut Kept,
+    found: &mut Ragged,
+) -> Result<(), AllocError>
     requires together { closed.now.decls ≡ decls_of checked.now }
     requires parts { AreParts closed.now (depths_of checked.now) parts.now.table.reached parts.now.table.maps parts.now.given }
     requires names { AreMethodNames closed.now.decls.list names.now }
     requires right { AreRight closed.now parts.now.table.maps rows.now }
+    requires kept { AreKept closed.now kept.old }
+    requires class { t < length closed.now.types }
+    requires within { base < length closed.now.types }
+    requires base { base_of closed.now.decls.list (type_at closed.now.types t) ≡ Some (type_at closed.now.types base) }
+    requires interface { i < length closed.now.types }
+    ensures column { OnOk result (Gains (IsColumn closed.now (Some (type_at closed.now.types t)) i) found.old found.new) }
+    ensures kept { OnOk result (AreKept closed.now kept.new) }
+{
+    if let Some(above) = made_column(parts.table.maps.as_slice(), rows, base, i, near) {
+        return column(checked, closed, parts, names, t, i, near, above, found);
+    }
+    let place = kept_place(alloc, checked, closed, parts, names, t, base, i, kept)?;
+    let above = kept.columns.list(place);
+    column(checked, closed, parts, names, t, i, near, above, found)
+}
+
+// Adds what class `t` has for the methods of interface `i`.
+fn add_column(
+    alloc: Global,
+    checked: &Checked,
+    closed: &Closed,
+    parts: &Parts,
+    names: &[Names],
+    rows: &[Ragged],
+    blank: &[Entry],
+    t: u16,
+    i: u16,
+    near: usize,
+    kept: &mut Kept,
+    found: &mut Ragged,
+) -> Result<(), AllocError>
+    requires together { closed.now.decls ≡ decls_of checked.now }
+    requires parts { AreParts closed.now (depths_of checked.now) parts.now.table.reached parts.now.table.maps parts.now.given }
+    requires names { AreMethodNames closed.now.decls.list names.now }
+    requires right { AreRight closed.now parts.now.table.maps rows.now }
+    requires blank { IsBlank 256 blank.now }
+    requires kept { AreKept closed.now kept.old }
     requires class { t < length closed.now.types }
     requires interface { i < length closed.now.types }
-    ensures { IfOk result (IsColumn closed.now (Some (type_at closed.now.types t)) i) }
+    ensures column { OnOk result (Gains (IsColumn closed.now (Some (type_at closed.now.types t)) i) found.old found.new) }
+    ensures kept { OnOk result (AreKept closed.now kept.new) }
 {
-    if let Some(base) = closed.base(t) {
-        if let Some(above) = made_column(parts.table.maps.as_slice(), rows, base, i, near) {
-            return column(alloc, checked, closed, parts, names, t, i, near, above);
+    match closed.base(t) {
+        Some(base) => add_below(
+            alloc, checked, closed, parts, names, rows, t, base, i, near, kept, found,
+        ),
+        None => {
+            let above = &blank[..count_methods(checked, closed, i) as usize];
+            column(checked, closed, parts, names, t, i, near, above, found)
         }
     }
-    let above = column_above(alloc, checked, closed, parts, names, t, i)?;
-    column(
-        alloc,
-        checked,
-        closed,
-        parts,
-        names,
-        t,
-        i,
-        near,
-        above.as_slice(),
-    )
+}
+
+// No columns, with room for those of these interfaces.
+fn room_for(
+    alloc: Global,
+    checked: &Checked,
+    closed: &Closed,
+    interfaces: &[u16],
+) -> Result<Ragged, AllocError>
+    requires together { closed.now.decls ≡ decls_of checked.now }
+    requires within { All (λ i. i < length closed.now.types) interfaces.now }
+    ensures { IfOk result (λ columns. columns ≡ []) }
+{
+    let slots = match add_slots(checked, closed, interfaces, 0) {
+        Some(slots) => slots as usize,
+        None => 0,
+    };
+    Ragged::with_capacity(alloc, interfaces.len(), slots)
 }
 
 /// The row of a class, from the rows that are made.
@@ -87,23 +173,28 @@ pub(crate) fn row(
     closed: &Closed,
     parts: &Parts,
     names: &[Names],
-    rows: &[Items<Items<Entry>>],
+    rows: &[Ragged],
     t: u16,
-) -> Result<Items<Items<Entry>>, AllocError>
+    kept: &mut Kept,
+) -> Result<Ragged, AllocError>
     requires together { closed.now.decls ≡ decls_of checked.now }
     requires parts { AreParts closed.now (depths_of checked.now) parts.now.table.reached parts.now.table.maps parts.now.given }
     requires names { AreMethodNames closed.now.decls.list names.now }
     requires right { AreRight closed.now parts.now.table.maps rows.now }
+    requires kept { AreKept closed.now kept.old }
     requires class { t < length closed.now.types }
-    ensures { IfOk result (IsRow closed.now t (slice_index_or parts.now.table.maps t []) (length (slice_index_or parts.now.table.maps t []))) }
+    ensures row { IfOk result (IsRow closed.now t (slice_index_or parts.now.table.maps t []) (length (slice_index_or parts.now.table.maps t []))) }
+    ensures kept { OnOk result (AreKept closed.now kept.new) }
 {
     let own_count = own(closed, parts.table.reached.as_slice(), t).len();
     let map = parts.table.maps.as_slice()[t as usize].as_slice();
-    let mut found = Vec::with_capacity(alloc, map.len())?;
+    let blank = [NOTHING; 256];
+    let mut found = room_for(alloc, checked, closed, map)?;
     for k in 0..map.len() {
         let near = k.checked_sub(own_count).unwrap_or(k);
-        let made = column_from(alloc, checked, closed, parts, names, rows, t, map[k], near)?;
-        found.push(made)?;
+        add_column(
+            alloc, checked, closed, parts, names, rows, &blank, t, map[k], near, kept, &mut found,
+        )?;
     }
-    Ok(Items::from_vec(found))
+    Ok(found)
 }

@@ -10,9 +10,10 @@ ghost use Rattle.vsd_slots.specs.Tables.{IsMap, types_of};
 ghost use Rattle.vsd_slots.specs.Slots.{AreSlots, AreSlotsOf, IsRefusal, map_of};
 
 use crate::counting::first_over;
-use crate::entries::{ClosedMethod, Entry, Parts, gather};
+use crate::entries::{ClosedMethod, Parts, gather};
 use crate::error::SlotError;
 use crate::filling::fill_all;
+use crate::ragged::Ragged;
 use crate::tables::own;
 use sqlite_items::Items;
 use std::alloc::Global;
@@ -24,7 +25,7 @@ use vsd_types::Closed;
 pub struct Slots {
     pub(crate) parts: Parts,
     /// For each type and each of its interfaces, what it has for each method.
-    pub(crate) rows: Items<Items<Items<Entry>>>,
+    pub(crate) rows: Items<Ragged>,
 }
 
 impl Slots {
@@ -64,7 +65,7 @@ impl Slots {
         requires method { m < method_count closed.now.decls.list (type_at closed.now.types (slice_index (map_of self.now t) place)) }
         ensures { IsImplementation closed.now.decls.list (type_at closed.now.types t) (type_at closed.now.types (slice_index (map_of self.now t) place)) m (found_of closed.now.types result) }
     {
-        self.rows.as_slice()[t as usize].as_slice()[place].as_slice()[m as usize].implementation
+        self.rows.as_slice()[t as usize].list(place)[m as usize].implementation
     }
 }
 

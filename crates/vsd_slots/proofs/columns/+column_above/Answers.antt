@@ -1,9 +1,11 @@
-use Rattle.std.proofs.Common.{◌<◌, IfOk, Option, sym, subst, arith}
+use Rattle.std.proofs.Common.{◌≡◌, ◌<◌, ◌∙◌, [], List, Option, get_or, sym, subst, arith}
+use Rattle.std.proofs.lemmas.Result.{IfOk-weaker}
 use Rattle.vsd_check.specs.Checked.{depths_of}
 use Rattle.vsd_terms.specs.declared.term.Term.{Term}
-use Rattle.vsd_types.specs.Types.{type_at}
+use Rattle.vsd_types.specs.Types.{base_of, type_at}
 use Rattle.vsd_slots.specs.Columns.{IsColumn}
 use Rattle.vsd_slots.specs.Ranks.{rank_of}
+use Rattle.vsd_slots.specs.declared.entries.Entry.{Entry}
 use Rattle.vsd_slots.proofs.EntryLaws.{base-some}
 use Rattle.vsd_slots.proofs.RankLaws.{base-falls}
 use Rattle.vsd_slots.proofs.columns.+column_above.Goals as goal
@@ -17,10 +19,21 @@ column_above-requires t c =
     let is = base-some s c.args.t c.args.i 0 c.base.result c.base.ensures.number b c.in-Some.is in
     let lower = base-falls ds depths c.requires.parts.hierarchy (type_at s.types c.args.t) (type_at s.types b) is in
     let falls : rank_of ds depths (type_at s.types b) < t = omega (arith, c.decreases, lower) in
-    (falls, (c.requires.together, (c.requires.parts, (c.requires.names, (c.in-Some.ensures.within, c.requires.interface)))))
+    (falls, (c.requires.together, (c.requires.parts, (c.requires.names, (c.requires.kept, (c.in-Some.ensures.within, c.requires.interface))))))
 
-pub returns-in_ok-higher-in-Some : goal.returns-in_ok-higher-in-Some
-returns-in_ok-higher-in-Some t c =
+pub returns-in-Some-place : goal.returns-in-Some-place
+returns-in-Some-place t c =
+    let s = c.args.closed.now in
+    let i = c.args.i in
+    let b = c.in-Some.base in
+    let place = c.in-Some-place.place in
+    let kept = get_or c.args.kept.now.columns place [] in
+    let is = base-some s c.args.t i 0 c.base.result c.base.ensures.number b c.in-Some.is in
+    let column = subst (λ (o : Option Term). IsColumn s o i kept) (sym is) (c.requires.kept.each b i place c.in-Some-place.ensures) in
+    IfOk-weaker c.from_slice.result (λ (it : List Entry). it ≡ c.list.result.now) (IsColumn s (base_of s.decls.list (type_at s.types c.args.t)) i) (λ it same. subst (IsColumn s (base_of s.decls.list (type_at s.types c.args.t)) i) (sym (same ∙ c.list.ensures)) column) c.from_slice.ensures
+
+pub returns-in_ok-found-in-Some : goal.returns-in_ok-found-in-Some
+returns-in_ok-found-in-Some t c =
     let s = c.args.closed.now in
     let is = base-some s c.args.t c.args.i 0 c.base.result c.base.ensures.number c.in-Some.base c.in-Some.is in
-    subst (λ (o : Option Term). IfOk c.column.result (IsColumn s o c.args.i)) (sym is) c.column.ensures
+    subst (λ (o : Option Term). IsColumn s o c.args.i c.change.new.column) (sym is) c.change.ensures

@@ -1,9 +1,11 @@
-use Rattle.std.proofs.Common.{None, Some, length}
-use Rattle.std.proofs.lemmas.Result.{IfOk-weaker}
+use Rattle.std.proofs.Common.{List, None, Some, length}
+use Rattle.std.proofs.lemmas.Result.{on_ok_weaker}
 use Rattle.vsd_types.specs.Types.{type_at}
 use Rattle.vsd_slots.specs.Columns.{AreEach, IsColumn}
 use Rattle.vsd_slots.specs.Entries.{IsCombined, IsStep}
+use Rattle.vsd_slots.specs.declared.entries.Entry.{Entry}
 use Rattle.vsd_slots.proofs.ColumnLaws.{passed-steps, stepped-column}
+use Rattle.vsd_slots.proofs.RaggedLaws.{gains-weaker}
 use Rattle.vsd_slots.proofs.columns.column.Goals as goal
 
 pub returns-then-is_bare : goal.returns-then-is_bare
@@ -13,7 +15,10 @@ returns-then-is_bare c =
     let i = c.args.i in
     let above = c.args.above.now in
     let has = c.has_itself-has.result in
-    IfOk-weaker c.passed_on.result (AreEach (λ m. IsCombined None None has) (length above) above) (IsColumn s (Some (type_at s.types t)) i) (λ column each. stepped-column s t i above column c.requires.above (passed-steps s t i has (length above) above column c.requires.interface (c.is_bare.ensures c.if-is_bare.true) c.has_itself-has.ensures each)) c.passed_on.ensures
+    let P : List Entry → Type 0 = AreEach (λ m. IsCombined None None has) (length above) above in
+    let Q : List Entry → Type 0 = IsColumn s (Some (type_at s.types t)) i in
+    let step : (column : List Entry) → P column → Q column = λ column each. stepped-column s t i above column c.requires.above (passed-steps s t i has (length above) above column c.requires.interface (c.is_bare.ensures c.if-is_bare.true) c.has_itself-has.ensures each) in
+    on_ok_weaker c.passed_on.result (gains-weaker P Q c.args.found.now c.passed_on.new.found step) c.passed_on.ensures
 
 pub returns : goal.returns
 returns c =
@@ -21,4 +26,6 @@ returns c =
     let t = c.args.t in
     let i = c.args.i in
     let above = c.args.above.now in
-    IfOk-weaker c.stepped.result (AreEach (IsStep s t i) (length above) above) (IsColumn s (Some (type_at s.types t)) i) (λ column each. stepped-column s t i above column c.requires.above each) c.stepped.ensures
+    let P : List Entry → Type 0 = AreEach (IsStep s t i) (length above) above in
+    let Q : List Entry → Type 0 = IsColumn s (Some (type_at s.types t)) i in
+    on_ok_weaker c.stepped.result (gains-weaker P Q c.args.found.now c.stepped.new.found (λ column each. stepped-column s t i above column c.requires.above each)) c.stepped.ensures
