@@ -1,9 +1,9 @@
 //! What a class has for each method of an interface, from what its base has.
-ghost use Rattle.std.specs.Prelude.{◌≡◌, ◌<◌, ◌≤◌, None, Some, length, IfOk, OnOk, false};
+ghost use Rattle.std.specs.Prelude.{◌≡◌, ◌<◌, ◌≤◌, None, Some, length, IfOk, OnOk, false, true};
 ghost use Rattle.vsd_check.specs.Checked.{decls_of, depths_of};
 ghost use Rattle.vsd_types.specs.Types.{base_of, type_at};
 ghost use Rattle.vsd_slots.specs.Columns.{AreEach, IsBlank, IsColumn};
-ghost use Rattle.vsd_slots.specs.Entries.{AreParts, IsCombined, IsHaving, IsStep};
+ghost use Rattle.vsd_slots.specs.Entries.{AreParts, IsBare, IsCombined, IsHaving, IsStep};
 ghost use Rattle.vsd_slots.specs.Firsts.{AreMethodNames};
 ghost use Rattle.vsd_slots.specs.Kept.{AreKept};
 ghost use Rattle.vsd_slots.specs.Ragged.{Gains};
@@ -70,7 +70,7 @@ fn stepped(
 }
 
 /// Adds what class `t` has for the methods of interface `i`, from what its base has. `near` is where the interface may stand
-/// among those of the class.
+/// among those of the class, and `bare` tells that the class has nothing of its own.
 pub(crate) fn column(
     checked: &Checked,
     closed: &Closed,
@@ -79,6 +79,7 @@ pub(crate) fn column(
     t: u16,
     i: u16,
     near: usize,
+    bare: bool,
     above: &[Entry],
     found: &mut Ragged,
 ) -> Result<(), AllocError>
@@ -87,11 +88,12 @@ pub(crate) fn column(
     requires names { AreMethodNames closed.now.decls.list names.now }
     requires class { t < length closed.now.types }
     requires interface { i < length closed.now.types }
+    requires bare { bare ≡ true → IsBare closed.now t }
     requires above { IsColumn closed.now (base_of closed.now.decls.list (type_at closed.now.types t)) i above.now }
     ensures { OnOk result (Gains (IsColumn closed.now (Some (type_at closed.now.types t)) i) found.old found.new) }
 {
     let has = has_itself(checked, closed, parts, t, i, near);
-    if is_bare(checked, closed, parts, t) {
+    if bare {
         return passed_on(has, above, found);
     }
     let _few = count_methods(checked, closed, i);

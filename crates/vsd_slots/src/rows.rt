@@ -1,9 +1,11 @@
 //! What a class has for the methods of each of its interfaces.
-ghost use Rattle.std.specs.Prelude.{◌≡◌, ◌<◌, ◌≤◌, All, IfOk, IfSome, OnOk, [], Some, length, slice_index_or};
+ghost use Rattle.std.specs.Prelude.{◌≡◌, ◌<◌, ◌≤◌, All, IfOk, IfSome, OnOk, [], Some, length, true, slice_index_or};
 ghost use Rattle.vsd_check.specs.Checked.{decls_of, depths_of};
+ghost use Rattle.std.specs.Option.{option_to_list};
+ghost use Rattle.vsd_types.specs.Numbers.{AreNumbers};
 ghost use Rattle.vsd_types.specs.Types.{base_of, type_at};
 ghost use Rattle.vsd_slots.specs.Columns.{IsBlank, IsColumn};
-ghost use Rattle.vsd_slots.specs.Entries.{AreParts};
+ghost use Rattle.vsd_slots.specs.Entries.{AreParts, IsBare};
 ghost use Rattle.vsd_slots.specs.Firsts.{AreMethodNames};
 ghost use Rattle.vsd_slots.specs.Kept.{AreKept, IsPlace};
 ghost use Rattle.vsd_slots.specs.Ragged.{Gains};
@@ -11,7 +13,7 @@ ghost use Rattle.vsd_slots.specs.Rows.{AreRight, IsMade, IsRow};
 
 use crate::columns::{column, column_above};
 use crate::counting::{add_slots, count_methods};
-use crate::entries::{Entry, NOTHING, Parts};
+use crate::entries::{Entry, NOTHING, Parts, is_bare};
 use crate::kept::Kept;
 use crate::ragged::Ragged;
 use crate::searching::place_near;
@@ -85,6 +87,7 @@ fn add_below(
     base: u16,
     i: u16,
     near: usize,
+    bare: bool,
     kept: &mut Kept,
     found: &mut Ragged,
 ) -> Result<(), AllocError>
@@ -94,6 +97,7 @@ fn add_below(
     requires right { AreRight closed.now parts.now.table.maps rows.now }
     requires kept { AreKept closed.now kept.old }
     requires class { t < length closed.now.types }
+    requires bare { bare ≡ true → IsBare closed.now t }
     requires within { base < length closed.now.types }
     requires base { base_of closed.now.decls.list (type_at closed.now.types t) ≡ Some (type_at closed.now.types base) }
     requires interface { i < length closed.now.types }
@@ -101,11 +105,15 @@ fn add_below(
     ensures kept { OnOk result (AreKept closed.now kept.new) }
 {
     if let Some(above) = made_column(parts.table.maps.as_slice(), rows, base, i, near) {
-        return column(checked, closed, parts, names, t, i, near, above, found);
+        return column(
+            checked, closed, parts, names, t, i, near, bare, above, found,
+        );
     }
     let place = kept_place(alloc, checked, closed, parts, names, t, base, i, kept)?;
     let above = kept.columns.list(place);
-    column(checked, closed, parts, names, t, i, near, above, found)
+    column(
+        checked, closed, parts, names, t, i, near, bare, above, found,
+    )
 }
 
 // Adds what class `t` has for the methods of interface `i`.
@@ -118,8 +126,10 @@ fn add_column(
     rows: &[Ragged],
     blank: &[Entry],
     t: u16,
+    base: Option<u16>,
     i: u16,
     near: usize,
+    bare: bool,
     kept: &mut Kept,
     found: &mut Ragged,
 ) -> Result<(), AllocError>
@@ -130,17 +140,22 @@ fn add_column(
     requires blank { IsBlank 256 blank.now }
     requires kept { AreKept closed.now kept.old }
     requires class { t < length closed.now.types }
+    requires bare { bare ≡ true → IsBare closed.now t }
+    requires within { IfSome base (λ b. b < length closed.now.types) }
+    requires base { AreNumbers closed.now.types (option_to_list base) (option_to_list (base_of closed.now.decls.list (type_at closed.now.types t))) }
     requires interface { i < length closed.now.types }
     ensures column { OnOk result (Gains (IsColumn closed.now (Some (type_at closed.now.types t)) i) found.old found.new) }
     ensures kept { OnOk result (AreKept closed.now kept.new) }
 {
-    match closed.base(t) {
+    match base {
         Some(base) => add_below(
-            alloc, checked, closed, parts, names, rows, t, base, i, near, kept, found,
+            alloc, checked, closed, parts, names, rows, t, base, i, near, bare, kept, found,
         ),
         None => {
             let above = &blank[..count_methods(checked, closed, i) as usize];
-            column(checked, closed, parts, names, t, i, near, above, found)
+            column(
+                checked, closed, parts, names, t, i, near, bare, above, found,
+            )
         }
     }
 }
@@ -188,12 +203,15 @@ pub(crate) fn row(
 {
     let own_count = own(closed, parts.table.reached.as_slice(), t).len();
     let map = parts.table.maps.as_slice()[t as usize].as_slice();
+    let base = closed.base(t);
+    let bare = is_bare(checked, closed, parts, t);
     let blank = [NOTHING; 256];
     let mut found = room_for(alloc, checked, closed, map)?;
     for k in 0..map.len() {
         let near = k.checked_sub(own_count).unwrap_or(k);
         add_column(
-            alloc, checked, closed, parts, names, rows, &blank, t, map[k], near, kept, &mut found,
+            alloc, checked, closed, parts, names, rows, &blank, t, base, map[k], near, bare, kept,
+            &mut found,
         )?;
     }
     Ok(found)

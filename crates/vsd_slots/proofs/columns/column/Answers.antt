@@ -8,8 +8,8 @@ use Rattle.vsd_slots.proofs.ColumnLaws.{passed-steps, stepped-column}
 use Rattle.vsd_slots.proofs.RaggedLaws.{gains-weaker}
 use Rattle.vsd_slots.proofs.columns.column.Goals as goal
 
-pub returns-then-is_bare : goal.returns-then-is_bare
-returns-then-is_bare c =
+pub returns-then-bare : goal.returns-then-bare
+returns-then-bare c =
     let s = c.args.closed.now in
     let t = c.args.t in
     let i = c.args.i in
@@ -17,7 +17,7 @@ returns-then-is_bare c =
     let has = c.has_itself-has.result in
     let P : List Entry → Type 0 = AreEach (λ m. IsCombined None None has) (length above) above in
     let Q : List Entry → Type 0 = IsColumn s (Some (type_at s.types t)) i in
-    let step : (column : List Entry) → P column → Q column = λ column each. stepped-column s t i above column c.requires.above (passed-steps s t i has (length above) above column c.requires.interface (c.is_bare.ensures c.if-is_bare.true) c.has_itself-has.ensures each) in
+    let step : (column : List Entry) → P column → Q column = λ column each. stepped-column s t i above column c.requires.above (passed-steps s t i has (length above) above column c.requires.interface (c.requires.bare c.if-bare.true) c.has_itself-has.ensures each) in
     on_ok_weaker c.passed_on.result (gains-weaker P Q c.args.found.now c.passed_on.new.found step) c.passed_on.ensures
 
 pub returns : goal.returns
