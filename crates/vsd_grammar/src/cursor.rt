@@ -18,7 +18,7 @@ use vsd_terms::{Names, NamesError};
 use vsd_text::{Token, TokenKind};
 
 /// The most nodes of a written term.
-const MOST_NODES: u8 = 64;
+pub const MOST_NODES: u8 = 64;
 
 /// A place in a list of tokens, with what was counted up to there.
 #[derive(Drop)]

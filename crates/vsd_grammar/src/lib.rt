@@ -16,7 +16,7 @@ mod token_class;
 mod turn;
 
 pub use cause::{Cause, Counted, Form, Listed};
-pub use cursor::{Cursor, line_of, same_class, same_keyword};
+pub use cursor::{Cursor, MOST_NODES, line_of, same_class, same_keyword};
 pub use decimal::spelled_number;
 pub use keyword::{Keyword, keyword_of};
 pub use laws::{

@@ -17,7 +17,7 @@ pub use laws::{lanes_are_decided, lanes_mean_their_items, lanes_use_what_lives};
 pub use lookup::{host_in, numbered, site_in};
 pub use operations::{Step, assigned};
 pub use reading::{Fresh, Object, Own, Reading, Role, show};
-pub use repeats::{Body, Verb, lane};
+pub use repeats::{Body, MOST_DIGITS, Verb, lane};
 pub use tree::{Halt, Item, Live, Refusal, Running, Written};
 pub use types::Types;
 pub use variables::Variables;

@@ -22,7 +22,7 @@ use vsd_terms::Terms;
 const MOST_ROUNDS: u32 = 200000;
 
 /// The most decimal digits of a number in a script.
-const MOST_DIGITS: usize = 6;
+pub const MOST_DIGITS: usize = 6;
 
 /// How deep repeats may nest.
 const MOST_DEEP: u8 = 8;

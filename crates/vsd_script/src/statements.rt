@@ -9,7 +9,9 @@ use sqlite_items::Items;
 use std::alloc::{AllocError, Global};
 use vsd_ast::{Bytes, Host, Lane, Script, Site};
 use vsd_grammar::{Cause, Cursor, Listed, Stop, TokenClass, spelled_name, spelled_number};
-use vsd_lanes::{Body, Ground, Reading, Running, Types, assigned, host_in, lane, show, site_in};
+use vsd_lanes::{
+    Body, Ground, MOST_DIGITS, Reading, Running, Types, assigned, host_in, lane, show, site_in,
+};
 use vsd_terms::{Term, Terms};
 use vsd_type_syntax::written;
 
@@ -24,9 +26,6 @@ const MOST_OPERATIONS: usize = 200000;
 
 /// The greatest Number after a `#`.
 const MOST_OF_NAME: u32 = 256;
-
-/// The most decimal digits of a number in a script.
-const MOST_DIGITS: usize = 6;
 
 /// One more of what there may be so many of.
 fn few(count: usize, most: usize, what: Listed) -> Option<Cause>

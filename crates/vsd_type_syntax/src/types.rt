@@ -14,14 +14,13 @@ use crate::rules::TypeRules;
 use crate::starts::{Special, Start, special_of, start_at, suffix_of};
 use sqlite_items::Items;
 use std::alloc::Global;
-use vsd_grammar::{Cause, Cursor, Form, Stop, TokenClass, is_name, name, separated, spelled_name};
+use vsd_grammar::{
+    Cause, Cursor, Form, MOST_NODES, Stop, TokenClass, is_name, name, separated, spelled_name,
+};
 use vsd_terms::Term;
 
 /// The most levels below that of a written term.
 const MOST_BELOW: u8 = 15;
-
-/// The most nodes of a written term.
-const MOST_NODES: usize = 64;
 
 /// What follows the name of a type, which has this index and number. `more` reads what begins with `<`.
 #[tactic(auto, unfolding(crate::specs::Types::after_name))]
@@ -275,7 +274,14 @@ where
         → Reads (items spec.any_first Cause.TooDeep p 64 cursor.old) result cursor.new }
 {
     let item = |inner: &mut Cursor<'_>| argument(inner);
-    separated(alloc, cursor, any_first, Cause::TooDeep, MOST_NODES, item)
+    separated(
+        alloc,
+        cursor,
+        any_first,
+        Cause::TooDeep,
+        usize::from(MOST_NODES),
+        item,
+    )
 }
 
 /// A type with arguments of at most so many levels, or a named one alone.
