@@ -4,7 +4,7 @@ use denote.Ref.{Bor}
 use Rattle.vsd_terms.specs.declared.term.Term.{Term}
 use Rattle.vsd_terms.specs.Equality.{term_eq}
 use Rattle.vsd_ast.specs.declared.declarations.Decl.{Decl}
-use Rattle.vsd_ways.specs.Known.{IsMarked}
+use Rattle.vsd_ways.specs.Known.{owners_at_once, IsMarked}
 use Rattle.vsd_ways.specs.Leads.{HasInterface}
 
 -- what `==` of borrowed terms computes
@@ -23,6 +23,6 @@ IsAskedOrKnown asks find q = IsTrue (asks q) ⊎ IsSome (find q)
 abbrev pub KnowsOwner : (Bor Term → Option Bool) → List (Bor Term) → ℕ → Type 0
 KnowsOwner find asked o = (owner : Bor Term) → slice_get asked o ≡ Some owner → (q : Bor Term) → q.now ≡ owner.now → IsSome (find q)
 
--- the marks tell which of the first 64 owners that are asked for the lowest class of the chain has
+-- the marks tell which of the first owners that are asked for the lowest class of the chain has
 abbrev pub TellsOf : List Decl → List ℕ → List (Bor Term) → List Bool → Type 0
-TellsOf ds chain asked had = (o : ℕ) (owner : Bor Term) → o < 64 → slice_get asked o ≡ Some owner → IsMarked had o ↔ HasInterface ds chain owner.now
+TellsOf ds chain asked had = (o : ℕ) (owner : Bor Term) → o < owners_at_once → slice_get asked o ≡ Some owner → IsMarked had o ↔ HasInterface ds chain owner.now

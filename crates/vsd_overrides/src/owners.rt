@@ -8,6 +8,7 @@ ghost use Rattle.vsd_ast.specs.declared.declarations.Decl.{Decl};
 ghost use Rattle.vsd_ast.specs.declared.declarations.Override.{Override};
 ghost use Rattle.vsd_lift.specs.Settled.{IsSettled};
 ghost use Rattle.vsd_overrides.specs.Known.{AreKnown, IsAskedOrKnown, KnowsOwner, TellsOf, same_owner};
+ghost use Rattle.vsd_ways.specs.Known.{owners_at_once};
 ghost use Rattle.vsd_ways.specs.Leads.{HasInterface, IsUpward};
 ghost use Rattle.vsd_ways.specs.Order.{IsOrder};
 
@@ -17,7 +18,7 @@ use std::collections::HashMap;
 use vsd_ast::Override;
 use vsd_lift::{Hierarchy, same_up};
 use vsd_terms::Term;
-use vsd_ways::{Marks, all_ways, has_interfaces};
+use vsd_ways::{Marks, OWNERS_AT_ONCE, all_ways, has_interfaces};
 
 // Whether the class at a level names the owner itself.
 fn names_at(h: &Hierarchy<'_>, chain: &[usize], level: usize, owner: &Term) -> bool
@@ -119,7 +120,7 @@ fn ask_all<'a>(
     Ok(())
 }
 
-// Makes known which of the first 64 owners that are asked for the lowest class of a chain has: those that are marked.
+// Makes known which of the first owners that are asked for the lowest class of a chain has: those that are marked.
 fn tell<'a>(
     asked: &[&'a Term],
     had: &Marks,
@@ -128,17 +129,17 @@ fn tell<'a>(
     ensures known { OnOk result ((ds : List Decl) (chain : List ℕ) →
         AreKnown ds chain (get same_owner known.old) → TellsOf ds chain asked.now had.now →
         AreKnown ds chain (get same_owner known.new)) }
-    ensures each { OnOk result ((o : ℕ) → o < 64 → KnowsOwner (get same_owner known.new) asked.now o) }
+    ensures each { OnOk result ((o : ℕ) → o < owners_at_once → KnowsOwner (get same_owner known.new) asked.now o) }
     ensures before { OnOk result ((q : Bor Term) →
         IsSome (get same_owner known.old q) → IsSome (get same_owner known.new q)) }
 {
-    for o in 0..asked.len().min(64) {
+    for o in 0..asked.len().min(OWNERS_AT_ONCE) {
         known.insert(asked[o], had[o])?;
     }
     Ok(())
 }
 
-// The same of so many owners, by their ways.
+// The same by the ways of those owners.
 fn find<'a>(
     alloc: Global,
     h: &Hierarchy<'_>,
@@ -152,7 +153,7 @@ fn find<'a>(
     requires order { IsOrder (length h.now.decls.now) h.now.depths.now order.now }
     requires known { AreKnown h.now.decls.now chain.now (get same_owner known.old) }
     ensures known { OnOk result (AreKnown h.now.decls.now chain.now (get same_owner known.new)) }
-    ensures each { OnOk result ((o : ℕ) → o < 64 → KnowsOwner (get same_owner known.new) asked.now o) }
+    ensures each { OnOk result ((o : ℕ) → o < owners_at_once → KnowsOwner (get same_owner known.new) asked.now o) }
     ensures before { OnOk result ((q : Bor Term) →
         IsSome (get same_owner known.old q) → IsSome (get same_owner known.new q)) }
 {
@@ -161,7 +162,7 @@ fn find<'a>(
     tell(asked, &had, known)
 }
 
-// The same of all owners that are asked for, 64 at a time.
+// The same of all owners that are asked for.
 fn find_all<'a>(
     alloc: Global,
     h: &Hierarchy<'_>,
@@ -182,7 +183,7 @@ fn find_all<'a>(
     let mut from = 0;
     while from < asked.len() {
         find(alloc, h, order, chain, &asked[from..], known)?;
-        from += 64;
+        from += OWNERS_AT_ONCE;
     }
     Ok(())
 }

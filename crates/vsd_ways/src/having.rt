@@ -15,7 +15,7 @@ ghost use Rattle.vsd_ways.specs.Leads.{HasInterface, IsUpward, LeadsTo};
 ghost use Rattle.vsd_ways.specs.Ways.{AreWays};
 
 use crate::Ways;
-use crate::marks::{Marks, join};
+use crate::marks::{Marks, OWNERS_AT_ONCE, join};
 use vsd_ast::Decl;
 use vsd_lift::{Hierarchy, same_up};
 use vsd_terms::{Term, Terms};
@@ -144,7 +144,7 @@ pub fn has_interfaces(h: &Hierarchy<'_>, chain: &[usize], table: &[Ways]) -> Mar
         (o : ℕ) (owner : Term) → slice_get owners o ≡ Some owner →
         IsMarked result o ↔ HasInterface h.now.decls.now chain.now owner }
 {
-    let mut found = [false; 64];
+    let mut found = [false; OWNERS_AT_ONCE];
     for level in 0..chain.len() {
         mark_level(h, chain, level, table, &mut found);
     }
