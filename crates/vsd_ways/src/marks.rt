@@ -1,5 +1,5 @@
 //! For which owners a way is one.
-ghost use Rattle.std.specs.Prelude.{◌≡◌, ℕ, ◌<◌, ◌↔◌, ◌⊎◌};
+ghost use Rattle.std.specs.Prelude.{◌≡◌, ℕ, ◌<◌, ◌≤◌, ◌↔◌, ◌⊎◌, false};
 ghost use Rattle.vsd_ways.specs.Known.{owners_at_once, IsMarked};
 
 /// So many owners are asked for at once.
@@ -27,4 +27,26 @@ pub(crate) fn join(there: &mut Marks, marks: &Marks)
     for o in 0..OWNERS_AT_ONCE {
         there[o] |= marks[o];
     }
+}
+
+/// Marks for all owners but these.
+pub(crate) fn all_but(from: usize, to: usize) -> Marks
+    ensures { (o : ℕ) → from ≤ o → o < to → ¬ IsMarked result o }
+{
+    let mut marks = [true; OWNERS_AT_ONCE];
+    for o in from..to.min(OWNERS_AT_ONCE) {
+        marks[o] = false;
+    }
+    marks
+}
+
+/// Whether the second row has a mark that the first lacks.
+pub(crate) fn has_more(there: &Marks, marks: &Marks) -> bool
+    ensures { result ≡ false ↔ ((o : ℕ) → IsMarked marks.now o → IsMarked there.now o) }
+{
+    let mut more = false;
+    for o in 0..OWNERS_AT_ONCE {
+        more |= marks[o] & !there[o];
+    }
+    more
 }
