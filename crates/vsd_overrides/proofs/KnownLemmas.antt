@@ -24,16 +24,21 @@ pub same-Decides : (a b : Question) → Decides (same_question a b) ((a.class �
 same-Decides a b = Decides-and _ _ (unsigned_Decides a.class b.class) (term_eq-Decides a.owner.now b.owner.now)
 
 -- what holds of a question's test holds of that of a question that is the same
-pub as-same : (P : (Question → Bool) → Type 0) (k q : Question) → q.class ≡ k.class → q.owner.now ≡ k.owner.now → P (same_question k) → P (same_question q)
+pub as-same : (P : (Question → Bool) → Type 0) (k q : Question)
+    → q.class ≡ k.class → q.owner.now ≡ k.owner.now → P (same_question k) → P (same_question q)
 as-same P k q class owner p =
     subst (λ (t : Term). P (λ (a : Question). nat_eq q.class a.class && term_eq t a.owner.now)) (sym owner)
     (subst (λ (n : ℕ). P (λ (a : Question). nat_eq n a.class && term_eq k.owner.now a.owner.now)) (sym class) p)
 
 module _ (ds : List Decl) where
-  pub known-put : (old new : Question → Option Bool) (k : Question) (has : Bool) → (IsTrue has ↔ HasOwner ds k.class k.owner.now) → ((q : Question) → new q ≡ cond (same_question k q) (Some has) (old q)) → AreKnown ds old → AreKnown ds new
-  known-put old new k has exact updates before = record { each = λ q b is. by q b (same_question k q) refl (sym (updates q) ∙ is) }
+  pub known-put : (old new : Question → Option Bool) (k : Question) (has : Bool) → (IsTrue has ↔ HasOwner ds k.class k.owner.now)
+      → ((q : Question) → new q ≡ cond (same_question k q) (Some has) (old q)) → AreKnown ds old → AreKnown ds new
+  known-put old new k has exact updates before = record {
+    each = λ q b is. by q b (same_question k q) refl (sym (updates q) ∙ is);
+  }
     where
-      by : (q : Question) (b same : Bool) → same_question k q ≡ same → cond same (Some has) (old q) ≡ Some b → IsTrue b ↔ HasOwner ds q.class q.owner.now
+      by : (q : Question) (b same : Bool) → same_question k q ≡ same
+          → cond same (Some has) (old q) ≡ Some b → IsTrue b ↔ HasOwner ds q.class q.owner.now
       by q b true s e =
           let told : has ≡ b = cc in
           let same = (same-Decides k q).0 s in
@@ -43,22 +48,26 @@ module _ (ds : List Decl) where
       by q b false s e = before.each q b e
 
   -- what is known of a question, where something is
-  pub had-exact : (find : Question → Option Bool) (q : Question) (has : Bool) → has ≡ unwrap_or (find q) false → IsSome (find q) → AreKnown ds find → IsTrue has ↔ HasOwner ds q.class q.owner.now
-  had-exact find q has is some known = subst (λ (b : Bool). IsTrue b ↔ HasOwner ds q.class q.owner.now) (sym is) (by (find q) refl some)
+  pub had-exact : (find : Question → Option Bool) (q : Question) (has : Bool) → has ≡ unwrap_or (find q) false
+      → IsSome (find q) → AreKnown ds find → IsTrue has ↔ HasOwner ds q.class q.owner.now
+  had-exact find q has is some known =
+      subst (λ (b : Bool). IsTrue b ↔ HasOwner ds q.class q.owner.now) (sym is) (by (find q) refl some)
     where
       by : (told : Option Bool) → find q ≡ told → IsSome told → IsTrue (unwrap_or told false) ↔ HasOwner ds q.class q.owner.now
       by None e s = absurd (false≢true s)
       by (Some b) e s = known.each q b e
 
   -- the class has the owner on its one chain
-  pub has_on : (chain : List ℕ) (decl : ℕ) (owner : Term) → IsChain ds decl chain → HasInterface ds chain owner ↔ HasOwner ds decl owner
+  pub has_on : (chain : List ℕ) (decl : ℕ) (owner : Term)
+      → IsChain ds decl chain → HasInterface ds chain owner ↔ HasOwner ds decl owner
   has_on chain decl owner up = (
     λ has. record { chain = chain; upward = up; has = has },
     λ w. subst (λ (l : List ℕ). HasInterface ds l owner) (chain-unique ds decl w.chain chain w.upward up) w.has,
   )
 
 -- what is known stays known as one more question is answered, and so is that one
-module _ (old new : Question → Option Bool) (k : Question) (has : Bool) (updates : (q : Question) → new q ≡ cond (same_question k q) (Some has) (old q)) where
+module _ (old new : Question → Option Bool) (k : Question) (has : Bool)
+    (updates : (q : Question) → new q ≡ cond (same_question k q) (Some has) (old q)) where
   pub known-kept : (q : Question) → IsSome (old q) → IsSome (new q)
   known-kept q some = subst IsSome (sym (updates q)) (by (same_question k q))
     where
@@ -86,7 +95,8 @@ pub asked-place : (asked : List Question) (q : Question) → IsTrue (list_any (s
 asked-place [] q e = absurd (false≢true e)
 asked-place (k ∷ ks) q e = by (same_question q k) refl (asked-place ks q)
   where
-    by : (same : Bool) → same_question q k ≡ same → (IsTrue (list_any (same_question q) ks) → IsAskedAt ks q) → IsAskedAt (k ∷ ks) q
+    by : (same : Bool) → same_question q k ≡ same
+        → (IsTrue (list_any (same_question q) ks) → IsAskedAt ks q) → IsAskedAt (k ∷ ks) q
     by true s later =
         let same = (same-Decides q k).0 s in
         record { place = 0; question = k; there = refl; class = same.0; owner = same.1 }
@@ -95,11 +105,15 @@ asked-place (k ∷ ks) q e = by (same_question q k) refl (asked-place ks q)
         record { place = suc rest.place; question = rest.question; there = rest.there; class = rest.class; owner = rest.owner }
 
 -- an owner is asked for at its place
-pub asked-term : (asked : List Question) (o : ℕ) (q : Question) → o < 64 → slice_get asked o ≡ Some q → slice_get (owners_in (map (λ (a : Question). a.owner) asked)) o ≡ Some q.owner.now
+pub asked-term : (asked : List Question) (o : ℕ) (q : Question) → o < 64 → slice_get asked o ≡ Some q
+    → slice_get (owners_in (map (λ (a : Question). a.owner) asked)) o ≡ Some q.owner.now
 asked-term asked o q few there =
     let owners = map (λ (a : Question). a.owner) asked in
-    let here : slice_get owners o ≡ Some q.owner = slice_get-map_at (λ (a : Question). a.owner) asked o q (slice_get_within asked o q there) (sym (get_or_from_slice_get asked o q q there)) in
-    asked_at owners o q.owner (slice_get_within owners o q.owner here) few (sym (get_or_from_slice_get owners o q.owner q.owner here))
+    let inside = slice_get_within asked o q there in
+    let read = sym (get_or_from_slice_get asked o q q there) in
+    let here : slice_get owners o ≡ Some q.owner = slice_get-map_at (λ (a : Question). a.owner) asked o q inside read in
+    let first = slice_get_within owners o q.owner here in
+    asked_at owners o q.owner first few (sym (get_or_from_slice_get owners o q.owner q.owner here))
 
 pub mark-is : (marks : List Bool) (o : ℕ) → o < length marks → IsTrue (get_or marks o false) ↔ IsMarked marks o
 mark-is marks o inside = (λ yes_. slice_get-get_or marks o false inside ∙ ap Some yes_, λ m. get_or_from_slice_get marks o true false m)
@@ -111,7 +125,8 @@ slice_get-drop zero xs i = let same : i ≡ 0 + i = omega arith in ap (slice_get
 slice_get-drop (suc n) [] i = refl
 slice_get-drop (suc n) (x ∷ xs) i = let one : suc (n + i) ≡ suc n + i = omega arith in slice_get-drop n xs i ∙ ap (slice_get (x ∷ xs)) one
 
-pub part-at : {A : Type 0} (xs : List A) (from n i : ℕ) (x : A) → from ≤ i → i < from + n → slice_get xs i ≡ Some x → slice_get (take n (drop from xs)) (i - from) ≡ Some x
+pub part-at : {A : Type 0} (xs : List A) (from n i : ℕ) (x : A) → from ≤ i → i < from + n → slice_get xs i ≡ Some x
+    → slice_get (take n (drop from xs)) (i - from) ≡ Some x
 part-at {A} xs from n i x past within there =
     let sum : from + (i - from) ≡ i = omega arith in
     slice_get-take n (drop from xs) (i - from) (omega arith) ∙ slice_get-drop from xs (i - from) ∙ ap (slice_get xs) sum ∙ there
@@ -125,7 +140,8 @@ module _ (count : ℕ) where
   part-within asked from n all = All-take IsWithin n (drop from asked) (All-drop IsWithin from asked all)
 
   -- so are those with one more
-  pub more-within : (asked : List Question) (k : Question) → AreWithin count asked → k.class < count → AreWithin count (if list_any (same_question k) asked then asked else asked ++ k ∷ [])
+  pub more-within : (asked : List Question) (k : Question) → AreWithin count asked → k.class < count
+      → AreWithin count (if list_any (same_question k) asked then asked else asked ++ k ∷ [])
   more-within asked k all here = by (list_any (same_question k) asked)
     where
       by : (there : Bool) → AreWithin count (if there then asked else asked ++ k ∷ [])

@@ -28,7 +28,8 @@ IsAskedOrKnown asks find q = IsTrue (asks q) ⊎ IsSome (find q)
 
 -- so is that of each owner of the overrides of a class
 abbrev pub AreAskedOrKnown : (Question → Bool) → (Question → Option Bool) → ℕ → List Override → Type 0
-AreAskedOrKnown asks find class overrides = (i : ℕ) (o : Override) → slice_get overrides i ≡ Some o → (q : Question) → q.class ≡ class → q.owner.now ≡ o.owner → IsAskedOrKnown asks find q
+AreAskedOrKnown asks find class overrides = (i : ℕ) (o : Override) → slice_get overrides i ≡ Some o
+    → (q : Question) → q.class ≡ class → q.owner.now ≡ o.owner → IsAskedOrKnown asks find q
 
 -- whether the class has the owner is known
 abbrev pub Knows : (Question → Option Bool) → ℕ → Term → Type 0
@@ -44,11 +45,13 @@ KnowsAt find asked o = (a : Question) → slice_get asked o ≡ Some a → Knows
 
 -- the questions at these places are to the class of the first of them
 abbrev pub IsOneClass : List Question → ℕ → ℕ → Type 0
-IsOneClass asked from to = (o : ℕ) (a b : Question) → from ≤ o → o < to → slice_get asked from ≡ Some a → slice_get asked o ≡ Some b → b.class ≡ a.class
+IsOneClass asked from to = (o : ℕ) (a b : Question) → from ≤ o → o < to
+    → slice_get asked from ≡ Some a → slice_get asked o ≡ Some b → b.class ≡ a.class
 
 -- the marks tell the answers to the questions at these places
 abbrev pub TellsOf : List Decl → List Question → ℕ → ℕ → List Bool → Type 0
-TellsOf ds asked from to had = (o : ℕ) (q : Question) → from ≤ o → o < to → slice_get asked o ≡ Some q → IsMarked had o ↔ HasOwner ds q.class q.owner.now
+TellsOf ds asked from to had = (o : ℕ) (q : Question) → from ≤ o → o < to
+    → slice_get asked o ≡ Some q → IsMarked had o ↔ HasOwner ds q.class q.owner.now
 
 -- the table has the ways of the owners of the first questions
 pub record IsTableFor (ds : List Decl) (asked : List Question) (table : List (List Way)) : Type 0 where

@@ -11,5 +11,6 @@ abbrev pub invariant-loop-at : goal.invariant-loop-at
 invariant-loop-at l = record {
   known : AreKnown l.h.decls.now (get same_question l.known);
   asked : AreWithin (length l.h.decls.now) l.asked.keys;
-  each : (n : ℕ) (x : Decl) → n < l.at → slice_get l.h.decls.now n ≡ Some x → AreAskedOrKnown (contains same_question l.asked) (get same_question l.known) n x.overrides;
+  each : (n : ℕ) (x : Decl) → n < l.at → slice_get l.h.decls.now n ≡ Some x
+      → AreAskedOrKnown (contains same_question l.asked) (get same_question l.known) n x.overrides;
 }

@@ -12,6 +12,9 @@ abbrev pub invariant-loop-i : goal.invariant-loop-i
 invariant-loop-i l = record {
   known : AreKnown l.h.decls.now (get same_question l.known);
   asked : AreWithin (length l.h.decls.now) l.asked.keys;
-  each : (j : ℕ) (o : Override) → j < l.i → slice_get l.overrides j ≡ Some o → (q : Question) → q.class ≡ l.at → q.owner.now ≡ o.owner → IsAskedOrKnown (contains same_question l.asked) (get same_question l.known) q;
-  before : (q : Question) → IsAskedOrKnown (contains same_question l.fn.asked) (get same_question l.fn.known) q → IsAskedOrKnown (contains same_question l.asked) (get same_question l.known) q;
+  each : (j : ℕ) (o : Override) → j < l.i → slice_get l.overrides j ≡ Some o
+      → (q : Question) → q.class ≡ l.at → q.owner.now ≡ o.owner
+      → IsAskedOrKnown (contains same_question l.asked) (get same_question l.known) q;
+  before : (q : Question) → IsAskedOrKnown (contains same_question l.fn.asked) (get same_question l.fn.known) q
+      → IsAskedOrKnown (contains same_question l.asked) (get same_question l.known) q;
 }

@@ -7,7 +7,8 @@ use Rattle.vsd_overrides.proofs.owners.find.Goals as goal
 
 pub find_class-requires-clause-table : goal.find_class-requires-clause-table
 find_class-requires-clause-table c =
-    subst (λ (t : List (List Way)). IsTableFor c.args.h.now.decls.now c.args.asked.now t) (sym c.as_slice.ensures) c.in_ok-table.ensures
+    let ds = c.args.h.now.decls.now in
+    subst (λ (t : List (List Way)). IsTableFor ds c.args.asked.now t) (sym c.as_slice.ensures) c.in_ok-table.ensures
 
 pub loop-from-preserved : goal.loop-from-preserved
 loop-from-preserved c = record {

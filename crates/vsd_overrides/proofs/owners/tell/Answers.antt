@@ -24,13 +24,15 @@ loop-o-preserved c =
       known = λ ds before tells.
           let mark = mark-is had o inside in
           let tell = tells o k (omega arith) (omega arith) there in
-          known-put ds old new k has (λ yes_. tell.0 (mark.0 yes_), λ w. mark.1 (tell.1 w)) updates (c.loop-o.invariant.known ds before tells);
+          let known = c.loop-o.invariant.known ds before tells in
+          known-put ds old new k has (λ yes_. tell.0 (mark.0 yes_), λ w. mark.1 (tell.1 w)) updates known;
       each = λ p past below a here q class owner. elim (cases_lt p o) [
         | inl lt ↦ known-kept old new k has updates q (c.loop-o.invariant.each p past lt a here q class owner)
         | inr ge ↦ (
             let last : p ≡ o = omega arith in
             let one : a ≡ k = let both = sym here ∙ ap (slice_get asked) last ∙ there in cc in
-            known-here old new k has updates q (class ∙ ap (λ (b : Question). b.class) one) (owner ∙ ap (λ (b : Question). b.owner.now) one)
+            known-here old new k has updates q
+            (class ∙ ap (λ (b : Question). b.class) one) (owner ∙ ap (λ (b : Question). b.owner.now) one)
             )
       ];
       before = λ q some. known-kept old new k has updates q (c.loop-o.invariant.before q some);

@@ -8,7 +8,8 @@ use Rattle.vsd_overrides.proofs.owners.tell.Given as goal
 
 abbrev pub invariant-loop-o : goal.invariant-loop-o
 invariant-loop-o l = record {
-  known : (ds : List Decl) → AreKnown ds (get same_question l.fn.known) → TellsOf ds l.asked l.from l.to l.had → AreKnown ds (get same_question l.known);
+  known : (ds : List Decl) → AreKnown ds (get same_question l.fn.known) → TellsOf ds l.asked l.from l.to l.had
+      → AreKnown ds (get same_question l.known);
   each : (p : ℕ) → l.from ≤ p → p < l.o → KnowsAt (get same_question l.known) l.asked p;
   before : (q : Question) → IsSome (get same_question l.fn.known q) → IsSome (get same_question l.known q);
 }

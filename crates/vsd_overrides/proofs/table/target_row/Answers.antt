@@ -18,7 +18,8 @@ target_of-target-requires-clause-told c =
     let o = c.index-overrides-i.result in
     let here : slice_get ds at ≡ Some x = slice_get-get_or ds at c.index-h-at.result c.requires.within in
     let there : slice_get all c.loop-i.i ≡ Some o = slice_get_read all (length all) c.loop-i.i o refl c.loop-i-test.true c.index-overrides-i.is in
-    c.requires.told x here c.loop-i.i o (ap (λ (l : List Override). slice_get l c.loop-i.i) (sym c.as_slice-overrides.ensures) ∙ there)
+    let one = ap (λ (l : List Override). slice_get l c.loop-i.i) (sym c.as_slice-overrides.ensures) ∙ there in
+    c.requires.told x here c.loop-i.i o one
 
 pub loop-i-preserved : goal.loop-i-preserved
 loop-i-preserved c =

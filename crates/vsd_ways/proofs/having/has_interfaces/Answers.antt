@@ -11,7 +11,8 @@ use Rattle.vsd_ways.proofs.ClassLemmas.{class_at}
 use Rattle.vsd_ways.proofs.having.has_interfaces.Goals as goal
 
 pub loop-level-init : goal.loop-level-init
-loop-level-init c owners are o owner past below asked = (λ m. absurd (c.all_but-found.ensures o past below m), λ w. absurd (omega (arith, w.1)))
+loop-level-init c owners are o owner past below asked =
+    (λ m. absurd (c.all_but-found.ensures o past below m), λ w. absurd (omega (arith, w.1)))
 
 pub loop-level-preserved : goal.loop-level-preserved
 loop-level-preserved c owners are o owner past below asked =
