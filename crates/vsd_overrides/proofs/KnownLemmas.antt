@@ -1,96 +1,149 @@
--- What is known of owners, as one more is asked for; and owners on the one chain of a class.
-use Rattle.std.proofs.Common.{◌≡◌, ℕ, zero, suc, ◌+◌, ◌-◌, ◌<◌, ◌≤◌, Bool, true, false, ◌||◌, IsTrue, IsSome, ◌↔◌, cond, List, [], ◌∷◌, length, take, drop, get_or, Option, Some, None, unwrap_or, refl, sym, ap, ◌∙◌, subst, arith}
+-- What is known of questions, as one more is asked or answered; and owners on the one chain of a class.
+use Rattle.std.proofs.Common.{◌≡◌, ℕ, zero, suc, ◌+◌, ◌-◌, ◌<◌, ◌≤◌, Bool, true, false, ◌||◌, ◌&&◌, nat_eq, IsTrue, IsSome, ◌↔◌, cond, List, [], ◌∷◌, length, map, take, drop, get_or, Option, Some, None, unwrap_or, if◌then◌else◌, ◌++◌, refl, sym, ap, ◌∙◌, subst, arith}
+use Rattle.std.specs.Bool.{Decides}
+use Rattle.std.specs.Cmp.{unsigned_Decides}
 use Rattle.std.specs.List.{slice_get, list_any}
 use Rattle.std.proofs.lemmas.Bool.{false≢true}
-use Rattle.std.proofs.lemmas.List.{take_rest}
+use Rattle.std.proofs.lemmas.Bool.Decides.{Decides-and}
 use Rattle.std.proofs.lemmas.Option.{slice_get_within, slice_get-get_or, get_or_from_slice_get}
-use denote.Ref.{Bor}
+use Rattle.std.proofs.lemmas.List.Elements.{All-drop, All-push, All-take}
 use Rattle.vsd_terms.specs.declared.term.Term.{Term}
-use Rattle.vsd_terms.specs.Equality.{term_eq-Decides}
+use Rattle.vsd_terms.specs.Equality.{term_eq, term_eq-Decides}
+use Rattle.vsd_terms.proofs.PlaceLemmas.{slice_get-map_at}
 use Rattle.vsd_ast.specs.declared.declarations.Decl.{Decl}
 use Rattle.vsd_lift.specs.Chain.{IsChain}
 use Rattle.vsd_lift.proofs.ChainLemmas.{chain-unique}
 use Rattle.vsd_ways.specs.Known.{owners_in, IsMarked}
-use Rattle.vsd_ways.proofs.OwnersLemmas.{asked_at}
+use Rattle.vsd_ways.proofs.OwnersLemmas.{asked_at, slice_get-take}
 use Rattle.vsd_ways.specs.Leads.{HasInterface}
 use Rattle.vsd_overrides.specs.Implements.{HasOwner}
-use Rattle.vsd_overrides.specs.Known.{AreKnown, same_owner}
+use Rattle.vsd_overrides.specs.Known.{AreKnown, AreWithin, Knows, same_question}
+use Rattle.vsd_overrides.specs.declared.asked.Question.{Question}
 
-module _ (ds : List Decl) (chain : List ℕ) where
-  pub known-start : (find : Bor Term → Option Bool) → ((q : Bor Term) → find q ≡ None) → AreKnown ds chain find
-  known-start find none = record { each = λ q has is. let e = sym (none q) ∙ is in absurd cc }
+pub same-Decides : (a b : Question) → Decides (same_question a b) ((a.class ≡ b.class) × (a.owner.now ≡ b.owner.now))
+same-Decides a b = Decides-and _ _ (unsigned_Decides a.class b.class) (term_eq-Decides a.owner.now b.owner.now)
 
-  pub known-put : (old new : Bor Term → Option Bool) (k : Bor Term) (has : Bool) → (IsTrue has ↔ HasInterface ds chain k.now) → ((q : Bor Term) → new q ≡ cond (same_owner k q) (Some has) (old q)) → AreKnown ds chain old → AreKnown ds chain new
-  known-put old new k has exact updates before = record { each = λ q b is. by q b (same_owner k q) refl (sym (updates q) ∙ is) }
+-- what holds of a question's test holds of that of a question that is the same
+pub as-same : (P : (Question → Bool) → Type 0) (k q : Question)
+    → q.class ≡ k.class → q.owner.now ≡ k.owner.now → P (same_question k) → P (same_question q)
+as-same P k q class owner p =
+    subst (λ (t : Term). P (λ (a : Question). nat_eq q.class a.class && term_eq t a.owner.now)) (sym owner)
+    (subst (λ (n : ℕ). P (λ (a : Question). nat_eq n a.class && term_eq k.owner.now a.owner.now)) (sym class) p)
+
+module _ (ds : List Decl) where
+  pub known-put : (old new : Question → Option Bool) (k : Question) (has : Bool) → (IsTrue has ↔ HasOwner ds k.class k.owner.now)
+      → ((q : Question) → new q ≡ cond (same_question k q) (Some has) (old q)) → AreKnown ds old → AreKnown ds new
+  known-put old new k has exact updates before = record {
+    each = λ q b is. by q b (same_question k q) refl (sym (updates q) ∙ is);
+  }
     where
-      by : (q : Bor Term) (b same : Bool) → same_owner k q ≡ same → cond same (Some has) (old q) ≡ Some b → IsTrue b ↔ HasInterface ds chain q.now
+      by : (q : Question) (b same : Bool) → same_question k q ≡ same
+          → cond same (Some has) (old q) ≡ Some b → IsTrue b ↔ HasOwner ds q.class q.owner.now
       by q b true s e =
           let told : has ≡ b = cc in
-          let owner : k.now ≡ q.now = (term_eq-Decides k.now q.now).0 s in
-          subst (λ (t : Term). IsTrue b ↔ HasInterface ds chain t) owner (subst (λ (c : Bool). IsTrue c ↔ HasInterface ds chain k.now) told exact)
+          let same = (same-Decides k q).0 s in
+          let of_class = subst (λ (n : ℕ). IsTrue has ↔ HasOwner ds n k.owner.now) same.0 exact in
+          let of_owner = subst (λ (t : Term). IsTrue has ↔ HasOwner ds q.class t) same.1 of_class in
+          subst (λ (c : Bool). IsTrue c ↔ HasOwner ds q.class q.owner.now) told of_owner
       by q b false s e = before.each q b e
 
-  -- what is known of an owner, where something is
-  pub had-exact : (find : Bor Term → Option Bool) (q : Bor Term) (has : Bool) → has ≡ unwrap_or (find q) false → IsSome (find q) → AreKnown ds chain find → IsTrue has ↔ HasInterface ds chain q.now
-  had-exact find q has is some known = subst (λ (b : Bool). IsTrue b ↔ HasInterface ds chain q.now) (sym is) (by (find q) refl some)
+  -- what is known of a question, where something is
+  pub had-exact : (find : Question → Option Bool) (q : Question) (has : Bool) → has ≡ unwrap_or (find q) false
+      → IsSome (find q) → AreKnown ds find → IsTrue has ↔ HasOwner ds q.class q.owner.now
+  had-exact find q has is some known =
+      subst (λ (b : Bool). IsTrue b ↔ HasOwner ds q.class q.owner.now) (sym is) (by (find q) refl some)
     where
-      by : (told : Option Bool) → find q ≡ told → IsSome told → IsTrue (unwrap_or told false) ↔ HasInterface ds chain q.now
+      by : (told : Option Bool) → find q ≡ told → IsSome told → IsTrue (unwrap_or told false) ↔ HasOwner ds q.class q.owner.now
       by None e s = absurd (false≢true s)
       by (Some b) e s = known.each q b e
 
   -- the class has the owner on its one chain
-  pub has_on : (decl : ℕ) (owner : Term) → IsChain ds decl chain → HasOwner ds decl owner → HasInterface ds chain owner
-  has_on decl owner up w = subst (λ (l : List ℕ). HasInterface ds l owner) (chain-unique ds decl w.chain chain w.upward up) w.has
+  pub has_on : (chain : List ℕ) (decl : ℕ) (owner : Term)
+      → IsChain ds decl chain → HasInterface ds chain owner ↔ HasOwner ds decl owner
+  has_on chain decl owner up = (
+    λ has. record { chain = chain; upward = up; has = has },
+    λ w. subst (λ (l : List ℕ). HasInterface ds l owner) (chain-unique ds decl w.chain chain w.upward up) w.has,
+  )
 
--- what is known stays known as one more owner is, and so does that one
-module _ (old new : Bor Term → Option Bool) (k : Bor Term) (has : Bool) (updates : (q : Bor Term) → new q ≡ cond (same_owner k q) (Some has) (old q)) where
-  pub known-kept : (q : Bor Term) → IsSome (old q) → IsSome (new q)
-  known-kept q some = subst IsSome (sym (updates q)) (by (same_owner k q))
+-- what is known stays known as one more question is answered, and so is that one
+module _ (old new : Question → Option Bool) (k : Question) (has : Bool)
+    (updates : (q : Question) → new q ≡ cond (same_question k q) (Some has) (old q)) where
+  pub known-kept : (q : Question) → IsSome (old q) → IsSome (new q)
+  known-kept q some = subst IsSome (sym (updates q)) (by (same_question k q))
     where
       by : (same : Bool) → IsSome (cond same (Some has) (old q))
       by true = refl
       by false = some
 
-  pub known-here : (q : Bor Term) → q.now ≡ k.now → IsSome (new q)
-  known-here q same =
-      let is : same_owner k q ≡ true = (term_eq-Decides k.now q.now).1 (sym same) in
+  pub known-here : Knows new k.class k.owner.now
+  known-here q class owner =
+      let is : same_question k q ≡ true = (same-Decides k q).1 (sym class, sym owner) in
       let put : new q ≡ Some has = updates q ∙ ap (λ (b : Bool). cond b (Some has) (old q)) is in
       subst IsSome (sym put) refl
 
--- ---- owners that are asked for
+-- ---- questions that are asked
 
--- the place of an owner among those that are asked for
-pub record IsAskedAt (asked : List (Bor Term)) (q : Bor Term) : Type 0 where
+-- the place of a question among those that are asked
+pub record IsAskedAt (asked : List Question) (q : Question) : Type 0 where
   pub place : ℕ
-  pub owner : Bor Term
-  pub there : slice_get asked place ≡ Some owner
-  pub same : q.now ≡ owner.now
+  pub question : Question
+  pub there : slice_get asked place ≡ Some question
+  pub class : q.class ≡ question.class
+  pub owner : q.owner.now ≡ question.owner.now
 
-pub asked-place : (asked : List (Bor Term)) (q : Bor Term) → IsTrue (list_any (same_owner q) asked) → IsAskedAt asked q
+pub asked-place : (asked : List Question) (q : Question) → IsTrue (list_any (same_question q) asked) → IsAskedAt asked q
 asked-place [] q e = absurd (false≢true e)
-asked-place (k ∷ ks) q e = by (same_owner q k) refl (asked-place ks q)
+asked-place (k ∷ ks) q e = by (same_question q k) refl (asked-place ks q)
   where
-    by : (same : Bool) → same_owner q k ≡ same → (IsTrue (list_any (same_owner q) ks) → IsAskedAt ks q) → IsAskedAt (k ∷ ks) q
-    by true s later = record { place = 0; owner = k; there = refl; same = (term_eq-Decides q.now k.now).0 s }
+    by : (same : Bool) → same_question q k ≡ same
+        → (IsTrue (list_any (same_question q) ks) → IsAskedAt ks q) → IsAskedAt (k ∷ ks) q
+    by true s later =
+        let same = (same-Decides q k).0 s in
+        record { place = 0; question = k; there = refl; class = same.0; owner = same.1 }
     by false s later =
-        let rest = later (sym (ap (λ (b : Bool). b || list_any (same_owner q) ks) s) ∙ e) in
-        record { place = suc rest.place; owner = rest.owner; there = rest.there; same = rest.same }
+        let rest = later (sym (ap (λ (b : Bool). b || list_any (same_question q) ks) s) ∙ e) in
+        record { place = suc rest.place; question = rest.question; there = rest.there; class = rest.class; owner = rest.owner }
 
 -- an owner is asked for at its place
-pub asked-term : (asked : List (Bor Term)) (o : ℕ) (owner : Bor Term) → o < 64 → slice_get asked o ≡ Some owner → slice_get (owners_in asked) o ≡ Some owner.now
-asked-term asked o owner few there = asked_at asked o owner (slice_get_within asked o owner there) few (sym (get_or_from_slice_get asked o owner owner there))
+pub asked-term : (asked : List Question) (o : ℕ) (q : Question) → o < 64 → slice_get asked o ≡ Some q
+    → slice_get (owners_in (map (λ (a : Question). a.owner) asked)) o ≡ Some q.owner.now
+asked-term asked o q few there =
+    let owners = map (λ (a : Question). a.owner) asked in
+    let inside = slice_get_within asked o q there in
+    let read = sym (get_or_from_slice_get asked o q q there) in
+    let here : slice_get owners o ≡ Some q.owner = slice_get-map_at (λ (a : Question). a.owner) asked o q inside read in
+    let first = slice_get_within owners o q.owner here in
+    asked_at owners o q.owner first few (sym (get_or_from_slice_get owners o q.owner q.owner here))
 
 pub mark-is : (marks : List Bool) (o : ℕ) → o < length marks → IsTrue (get_or marks o false) ↔ IsMarked marks o
 mark-is marks o inside = (λ yes_. slice_get-get_or marks o false inside ∙ ap Some yes_, λ m. get_or_from_slice_get marks o true false m)
 
--- ---- the elements from a place on
+-- ---- the elements between two places
 
 slice_get-drop : {A : Type 0} (n : ℕ) (xs : List A) (i : ℕ) → slice_get (drop n xs) i ≡ slice_get xs (n + i)
 slice_get-drop zero xs i = let same : i ≡ 0 + i = omega arith in ap (slice_get xs) same
 slice_get-drop (suc n) [] i = refl
 slice_get-drop (suc n) (x ∷ xs) i = let one : suc (n + i) ≡ suc n + i = omega arith in slice_get-drop n xs i ∙ ap (slice_get (x ∷ xs)) one
 
-pub rest-at : {A : Type 0} (xs : List A) (from i : ℕ) (x : A) → from ≤ i → slice_get xs i ≡ Some x → slice_get (take (length xs - from) (drop from xs)) (i - from) ≡ Some x
-rest-at {A} xs from i x past there =
+pub part-at : {A : Type 0} (xs : List A) (from n i : ℕ) (x : A) → from ≤ i → i < from + n → slice_get xs i ≡ Some x
+    → slice_get (take n (drop from xs)) (i - from) ≡ Some x
+part-at {A} xs from n i x past within there =
     let sum : from + (i - from) ≡ i = omega arith in
-    ap (λ (l : List A). slice_get l (i - from)) (take_rest xs from) ∙ slice_get-drop from xs (i - from) ∙ ap (slice_get xs) sum ∙ there
+    slice_get-take n (drop from xs) (i - from) (omega arith) ∙ slice_get-drop from xs (i - from) ∙ ap (slice_get xs) sum ∙ there
+
+module _ (count : ℕ) where
+  abbrev IsWithin : Question → Type 0
+  IsWithin q = q.class < count
+
+  -- the questions between two places are to classes that are there, as all are
+  pub part-within : (asked : List Question) (from n : ℕ) → AreWithin count asked → AreWithin count (take n (drop from asked))
+  part-within asked from n all = All-take IsWithin n (drop from asked) (All-drop IsWithin from asked all)
+
+  -- so are those with one more
+  pub more-within : (asked : List Question) (k : Question) → AreWithin count asked → k.class < count
+      → AreWithin count (if list_any (same_question k) asked then asked else asked ++ k ∷ [])
+  more-within asked k all here = by (list_any (same_question k) asked)
+    where
+      by : (there : Bool) → AreWithin count (if there then asked else asked ++ k ∷ [])
+      by true = all
+      by false = All-push IsWithin asked k all here

@@ -4,9 +4,10 @@
 //! implements something where its owner is an interface that the class has, the interface has the method, the class
 //! declares the implementing one, and their signatures agree at the owner's arguments. [`targets`] gives what each
 //! implements; [`unknown_override`] and [`repeated_override`] each answer the least line at which one declaration breaks
-//! a condition. Whether an open class has an interface is asked without listing its interfaces, once for each owner.
+//! a condition. Whether an open class has an interface is asked without listing its interfaces, of all classes at once.
 #![tactic(auto)]
 
+mod asked;
 mod conditions;
 mod matched;
 mod meaning;

@@ -1,211 +1,192 @@
-//! Whether a class has the owners of its overrides, asked for all of them at once.
-ghost use Rattle.std.specs.Prelude.{◌≡◌, ℕ, ◌<◌, ◌↔◌, length, List, slice_get, Some, IfOk, IsSome, IsTrue, OnOk};
+//! Whether classes have the owners of their overrides, asked for all classes at once.
+ghost use Rattle.std.specs.Prelude.{◌≡◌, ℕ, ◌<◌, ◌≤◌, ◌↔◌, length, List, map, slice_get, Some, IfOk, IsSome, IsTrue, OnOk};
 ghost use Rattle.std.specs.HashMap.{get};
-ghost use Rattle.std.specs.HashSet.{contains};
-ghost use denote.Ref.{Bor};
 ghost use Rattle.vsd_terms.specs.declared.term.Term.{Term};
 ghost use Rattle.vsd_ast.specs.declared.declarations.Decl.{Decl};
-ghost use Rattle.vsd_ast.specs.declared.declarations.Override.{Override};
 ghost use Rattle.vsd_lift.specs.Settled.{IsSettled};
-ghost use Rattle.vsd_overrides.specs.Known.{AreKnown, IsAskedOrKnown, KnowsOwner, TellsOf, same_owner};
-ghost use Rattle.vsd_ways.specs.Leads.{HasInterface, IsUpward};
+ghost use Rattle.vsd_overrides.specs.Implements.{HasOwner};
+ghost use Rattle.vsd_overrides.specs.Known.{AreKnown, AreWithin, IsOneClass, IsTableFor, Knows, KnowsAt, KnowsEach, TellsOf, same_question};
+ghost use Rattle.vsd_overrides.specs.declared.asked.Question.{Question};
+ghost use Rattle.vsd_ways.specs.Known.{owners_at_once};
 ghost use Rattle.vsd_ways.specs.Order.{IsOrder};
 
+use crate::asked::{Question, ask_all};
 use indexmap::IndexSet;
+use sqlite_items::Items;
 use std::alloc::{AllocError, Global};
 use std::collections::HashMap;
-use vsd_ast::Override;
-use vsd_lift::{Hierarchy, same_up};
+use vsd_lift::{Hierarchy, chain};
 use vsd_terms::Term;
-use vsd_ways::{Marks, all_ways, has_interfaces};
+use vsd_ways::{Marks, OWNERS_AT_ONCE, Ways, all_ways, has_interfaces, upward_order};
 
-// Whether the class at a level names the owner itself.
-fn names_at(h: &Hierarchy<'_>, chain: &[usize], level: usize, owner: &Term) -> bool
-    requires settled { IsSettled h.now.decls.now h.now.places.now h.now.depths.now }
-    requires upward { IsUpward h.now.decls.now chain.now }
-    requires within { level < length chain.now }
-    ensures { IsTrue result → HasInterface h.now.decls.now chain.now owner.now }
+/// Whether a class has an owner, where something is known of that.
+pub(crate) fn is_had<'a>(known: &HashMap<Question<'a>, bool>, question: Question<'a>) -> bool
+    ensures { (ds : List Decl) → AreKnown ds (get same_question known.now) →
+        Knows (get same_question known.now) question.entry.class question.entry.owner.now →
+        (IsTrue result ↔ HasOwner ds question.entry.class question.entry.owner.now) }
 {
-    let interfaces = h.decls[chain[level]].interfaces.as_slice();
-    for i in 0..interfaces.len() {
-        if same_up(owner, h.decls, chain, level, &interfaces[i].term) {
-            return true;
-        }
-    }
-    false
+    known.get(&question).copied().unwrap_or(false)
 }
 
-// Whether a class of the chain names the owner itself, as most do. No ways are needed then.
-fn names(h: &Hierarchy<'_>, chain: &[usize], owner: &Term) -> bool
-    requires settled { IsSettled h.now.decls.now h.now.places.now h.now.depths.now }
-    requires upward { IsUpward h.now.decls.now chain.now }
-    ensures { IsTrue result → HasInterface h.now.decls.now chain.now owner.now }
-{
-    for level in 0..chain.len() {
-        if names_at(h, chain, level, owner) {
-            return true;
-        }
-    }
-    false
-}
-
-// What was found of an owner.
-fn told<'a>(known: &HashMap<&'a Term, bool>, owner: &'a Term) -> Option<bool>
-    ensures { result ≡ get same_owner known.now owner.entry }
-{
-    known.get(&owner).copied()
-}
-
-/// Whether the lowest class of a chain has an owner of which something is known.
-pub(crate) fn is_had<'a>(known: &HashMap<&'a Term, bool>, owner: &'a Term) -> bool
-    ensures { (ds : List Decl) (chain : List ℕ) → AreKnown ds chain (get same_owner known.now) →
-        ((q : Bor Term) → q.now ≡ owner.now → IsSome (get same_owner known.now q)) →
-        (IsTrue result ↔ HasInterface ds chain owner.now) }
-{
-    told(known, owner).unwrap_or(false)
-}
-
-// Asks for an owner, or knows that the lowest class of the chain has it, where a class of the chain names it.
-fn ask<'a>(
-    h: &Hierarchy<'_>,
-    chain: &[usize],
-    owner: &'a Term,
-    asked: &mut IndexSet<&'a Term>,
-    known: &mut HashMap<&'a Term, bool>,
-) -> Result<(), AllocError>
-    requires settled { IsSettled h.now.decls.now h.now.places.now h.now.depths.now }
-    requires upward { IsUpward h.now.decls.now chain.now }
-    requires known { AreKnown h.now.decls.now chain.now (get same_owner known.old) }
-    ensures known { OnOk result (AreKnown h.now.decls.now chain.now (get same_owner known.new)) }
-    ensures here { OnOk result ((q : Bor Term) → q.now ≡ owner.now →
-        IsAskedOrKnown (contains same_owner asked.new) (get same_owner known.new) q) }
-    ensures before { OnOk result ((q : Bor Term) →
-        IsAskedOrKnown (contains same_owner asked.old) (get same_owner known.old) q →
-        IsAskedOrKnown (contains same_owner asked.new) (get same_owner known.new) q) }
-{
-    if told(known, owner).is_some() {
-        return Ok(());
-    }
-    if asked.contains(&owner) {
-        return Ok(());
-    }
-    if names(h, chain, owner) {
-        known.insert(owner, true)?;
-        return Ok(());
-    }
-    asked.insert(owner)?;
-    Ok(())
-}
-
-// The same of the owner of each override.
-fn ask_all<'a>(
-    h: &Hierarchy<'_>,
-    chain: &[usize],
-    overrides: &'a [Override],
-    asked: &mut IndexSet<&'a Term>,
-    known: &mut HashMap<&'a Term, bool>,
-) -> Result<(), AllocError>
-    requires settled { IsSettled h.now.decls.now h.now.places.now h.now.depths.now }
-    requires upward { IsUpward h.now.decls.now chain.now }
-    requires known { AreKnown h.now.decls.now chain.now (get same_owner known.old) }
-    ensures known { OnOk result (AreKnown h.now.decls.now chain.now (get same_owner known.new)) }
-    ensures each { OnOk result ((i : ℕ) (o : Override) → slice_get overrides.now i ≡ Some o →
-        (q : Bor Term) → q.now ≡ o.owner →
-        IsAskedOrKnown (contains same_owner asked.new) (get same_owner known.new) q) }
-{
-    for i in 0..overrides.len() {
-        ask(h, chain, &overrides[i].owner, asked, known)?;
-    }
-    Ok(())
-}
-
-// Makes known which of the first 64 owners that are asked for the lowest class of a chain has: those that are marked.
+// Makes known which of the owners `from..to` that are asked for are had: those that are marked.
 fn tell<'a>(
-    asked: &[&'a Term],
+    asked: &[Question<'a>],
+    from: usize,
+    to: usize,
     had: &Marks,
-    known: &mut HashMap<&'a Term, bool>,
+    known: &mut HashMap<Question<'a>, bool>,
 ) -> Result<(), AllocError>
-    ensures known { OnOk result ((ds : List Decl) (chain : List ℕ) →
-        AreKnown ds chain (get same_owner known.old) → TellsOf ds chain asked.now had.now →
-        AreKnown ds chain (get same_owner known.new)) }
-    ensures each { OnOk result ((o : ℕ) → o < 64 → KnowsOwner (get same_owner known.new) asked.now o) }
-    ensures before { OnOk result ((q : Bor Term) →
-        IsSome (get same_owner known.old q) → IsSome (get same_owner known.new q)) }
+    requires within { to ≤ length asked.now }
+    requires few { to ≤ owners_at_once }
+    ensures known { OnOk result ((ds : List Decl) → AreKnown ds (get same_question known.old) →
+        TellsOf ds asked.now from to had.now → AreKnown ds (get same_question known.new)) }
+    ensures each { OnOk result ((o : ℕ) → from ≤ o → o < to → KnowsAt (get same_question known.new) asked.now o) }
+    ensures before { OnOk result ((q : Question) →
+        IsSome (get same_question known.old q) → IsSome (get same_question known.new q)) }
 {
-    for o in 0..asked.len().min(64) {
+    for o in from..to {
         known.insert(asked[o], had[o])?;
     }
     Ok(())
 }
 
-// The same of so many owners, by their ways.
+// Where the questions to the class of the one at `from` end.
+fn end_of_class(asked: &[Question<'_>], from: usize) -> usize
+    requires { from < length asked.now }
+    ensures after { from < result }
+    ensures within { result ≤ length asked.now }
+    ensures same { IsOneClass asked.now from result }
+{
+    let class = asked[from].class;
+    for o in from + 1..asked.len() {
+        if asked[o].class != class {
+            return o;
+        }
+    }
+    asked.len()
+}
+
+// Answers the questions `from..to`, all to one class, by the ways of all owners that are asked for.
+fn find_class<'a>(
+    alloc: Global,
+    h: &Hierarchy<'_>,
+    asked: &[Question<'a>],
+    from: usize,
+    to: usize,
+    table: &[Ways],
+    known: &mut HashMap<Question<'a>, bool>,
+) -> Result<(), AllocError>
+    requires settled { IsSettled h.now.decls.now h.now.places.now h.now.depths.now }
+    requires classes { AreWithin (length h.now.decls.now) asked.now }
+    requires some { from < to }
+    requires within { to ≤ length asked.now }
+    requires few { to ≤ owners_at_once }
+    requires same { IsOneClass asked.now from to }
+    requires table { IsTableFor h.now.decls.now asked.now table.now }
+    requires known { AreKnown h.now.decls.now (get same_question known.old) }
+    ensures known { OnOk result (AreKnown h.now.decls.now (get same_question known.new)) }
+    ensures each { OnOk result ((o : ℕ) → from ≤ o → o < to → KnowsAt (get same_question known.new) asked.now o) }
+    ensures before { OnOk result ((q : Question) →
+        IsSome (get same_question known.old q) → IsSome (get same_question known.new q)) }
+{
+    let upward = chain(alloc, h, asked[from].class)?;
+    let had = has_interfaces(h, upward.as_slice(), table, from, to);
+    tell(asked, from, to, &had, known)
+}
+
+// The owners that are asked for.
+fn owners_of<'a>(alloc: Global, asked: &[Question<'a>]) -> Result<Vec<&'a Term>, AllocError>
+    ensures { IfOk result (λ owners. owners.items ≡ map (λ (q : Question). q.owner) asked.now) }
+{
+    let mut owners = Vec::new(alloc);
+    for question in asked {
+        owners.push(question.owner)?;
+    }
+    Ok(owners)
+}
+
+// The ways of those owners.
+fn ways_for(
+    alloc: Global,
+    h: &Hierarchy<'_>,
+    order: &[u16],
+    asked: &[Question<'_>],
+) -> Result<Items<Ways>, AllocError>
+    requires settled { IsSettled h.now.decls.now h.now.places.now h.now.depths.now }
+    requires order { IsOrder (length h.now.decls.now) h.now.depths.now order.now }
+    ensures { IfOk result (IsTableFor h.now.decls.now asked.now) }
+{
+    let owners = owners_of(alloc, asked)?;
+    all_ways(alloc, h, order, owners.as_slice())
+}
+
+// Answers as many questions as are asked at once, those to one class together.
 fn find<'a>(
     alloc: Global,
     h: &Hierarchy<'_>,
     order: &[u16],
-    chain: &[usize],
-    asked: &[&'a Term],
-    known: &mut HashMap<&'a Term, bool>,
+    asked: &[Question<'a>],
+    known: &mut HashMap<Question<'a>, bool>,
 ) -> Result<(), AllocError>
     requires settled { IsSettled h.now.decls.now h.now.places.now h.now.depths.now }
-    requires upward { IsUpward h.now.decls.now chain.now }
     requires order { IsOrder (length h.now.decls.now) h.now.depths.now order.now }
-    requires known { AreKnown h.now.decls.now chain.now (get same_owner known.old) }
-    ensures known { OnOk result (AreKnown h.now.decls.now chain.now (get same_owner known.new)) }
-    ensures each { OnOk result ((o : ℕ) → o < 64 → KnowsOwner (get same_owner known.new) asked.now o) }
-    ensures before { OnOk result ((q : Bor Term) →
-        IsSome (get same_owner known.old q) → IsSome (get same_owner known.new q)) }
+    requires classes { AreWithin (length h.now.decls.now) asked.now }
+    requires few { length asked.now ≤ owners_at_once }
+    requires known { AreKnown h.now.decls.now (get same_question known.old) }
+    ensures known { OnOk result (AreKnown h.now.decls.now (get same_question known.new)) }
+    ensures each { OnOk result ((o : ℕ) → KnowsAt (get same_question known.new) asked.now o) }
+    ensures before { OnOk result ((q : Question) →
+        IsSome (get same_question known.old q) → IsSome (get same_question known.new q)) }
 {
-    let table = all_ways(alloc, h, order, asked)?;
-    let had = has_interfaces(h, chain, table.as_slice());
-    tell(asked, &had, known)
-}
-
-// The same of all owners that are asked for, 64 at a time.
-fn find_all<'a>(
-    alloc: Global,
-    h: &Hierarchy<'_>,
-    order: &[u16],
-    chain: &[usize],
-    asked: &[&'a Term],
-    known: &mut HashMap<&'a Term, bool>,
-) -> Result<(), AllocError>
-    requires settled { IsSettled h.now.decls.now h.now.places.now h.now.depths.now }
-    requires upward { IsUpward h.now.decls.now chain.now }
-    requires order { IsOrder (length h.now.decls.now) h.now.depths.now order.now }
-    requires known { AreKnown h.now.decls.now chain.now (get same_owner known.old) }
-    ensures known { OnOk result (AreKnown h.now.decls.now chain.now (get same_owner known.new)) }
-    ensures each { OnOk result ((o : ℕ) → KnowsOwner (get same_owner known.new) asked.now o) }
-    ensures before { OnOk result ((q : Bor Term) →
-        IsSome (get same_owner known.old q) → IsSome (get same_owner known.new q)) }
-{
+    let table = ways_for(alloc, h, order, asked)?;
     let mut from = 0;
     while from < asked.len() {
-        find(alloc, h, order, chain, &asked[from..], known)?;
-        from += 64;
+        let to = end_of_class(asked, from);
+        find_class(alloc, h, asked, from, to, table.as_slice(), known)?;
+        from = to;
     }
     Ok(())
 }
 
-/// For the owner of each override whether the lowest class of the chain has it. No ways are needed where classes of the
-/// chain name all of them, as most do.
-pub(crate) fn owners_had<'a>(
+// The same of all questions.
+fn find_all<'a>(
     alloc: Global,
     h: &Hierarchy<'_>,
-    order: &[u16],
-    chain: &[usize],
-    overrides: &'a [Override],
-) -> Result<HashMap<&'a Term, bool>, AllocError>
+    asked: &[Question<'a>],
+    known: &mut HashMap<Question<'a>, bool>,
+) -> Result<(), AllocError>
     requires settled { IsSettled h.now.decls.now h.now.places.now h.now.depths.now }
-    requires upward { IsUpward h.now.decls.now chain.now }
-    requires order { IsOrder (length h.now.decls.now) h.now.depths.now order.now }
-    ensures known { IfOk result (λ known. AreKnown h.now.decls.now chain.now (get same_owner known)) }
-    ensures each { IfOk result (λ known. (i : ℕ) (o : Override) → slice_get overrides.now i ≡ Some o →
-        (q : Bor Term) → q.now ≡ o.owner → IsSome (get same_owner known q)) }
+    requires classes { AreWithin (length h.now.decls.now) asked.now }
+    requires known { AreKnown h.now.decls.now (get same_question known.old) }
+    ensures known { OnOk result (AreKnown h.now.decls.now (get same_question known.new)) }
+    ensures each { OnOk result ((o : ℕ) → KnowsAt (get same_question known.new) asked.now o) }
+    ensures before { OnOk result ((q : Question) →
+        IsSome (get same_question known.old q) → IsSome (get same_question known.new q)) }
+{
+    let order = upward_order(alloc, h.depths)?;
+    let mut from = 0;
+    while from < asked.len() {
+        let to = (from + OWNERS_AT_ONCE).min(asked.len());
+        find(alloc, h, order.as_slice(), &asked[from..to], known)?;
+        from = to;
+    }
+    Ok(())
+}
+
+/// Of the owner of each override of each class whether the class has it. No ways are needed where classes name all of
+/// theirs, as most do.
+pub(crate) fn owners_had<'a>(
+    alloc: Global,
+    h: &Hierarchy<'a>,
+) -> Result<HashMap<Question<'a>, bool>, AllocError>
+    requires settled { IsSettled h.now.decls.now h.now.places.now h.now.depths.now }
+    ensures known { IfOk result (λ known. AreKnown h.now.decls.now (get same_question known)) }
+    ensures each { IfOk result (λ known. (n : ℕ) (x : Decl) → slice_get h.now.decls.now n ≡ Some x →
+        KnowsEach (get same_question known) n x.overrides) }
 {
     let mut known = HashMap::new(alloc);
     let mut asked = IndexSet::new(alloc);
-    ask_all(h, chain, overrides, &mut asked, &mut known)?;
-    find_all(alloc, h, order, chain, asked.as_slice(), &mut known)?;
+    ask_all(alloc, h, &mut asked, &mut known)?;
+    find_all(alloc, h, asked.as_slice(), &mut known)?;
     Ok(known)
 }

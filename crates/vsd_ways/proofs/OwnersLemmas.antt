@@ -7,7 +7,7 @@ use Rattle.vsd_terms.specs.declared.term.Term.{Term}
 use Rattle.vsd_terms.proofs.PlaceLemmas.{slice_get-map_at}
 use Rattle.vsd_ways.specs.Known.{owners_in}
 
-slice_get-take : {A : Type 0} (n : ℕ) (xs : List A) (i : ℕ) → i < n → slice_get (take n xs) i ≡ slice_get xs i
+pub slice_get-take : {A : Type 0} (n : ℕ) (xs : List A) (i : ℕ) → i < n → slice_get (take n xs) i ≡ slice_get xs i
 slice_get-take zero xs i within = absurd (omega arith)
 slice_get-take (suc n) [] i within = refl
 slice_get-take (suc n) (x ∷ xs) zero within = refl

@@ -49,6 +49,10 @@ ways_in entries = map (λ e. (e.0.items, e.1)) entries
 abbrev pub same_known : List (Option Term) → List (Option Term) → Bool
 same_known = pointwise (option_eq term_eq)
 
--- the owners that are asked for at once: the first 64 of these
+-- so many owners are asked for at once
+abbrev pub owners_at_once : ℕ
+owners_at_once = 64
+
+-- the owners that are asked for at once: the first of these
 unfoldable pub owners_in : List (Bor Term) → List Term
-owners_in owners = take 64 (map (λ owner. owner.now) owners)
+owners_in owners = take owners_at_once (map (λ owner. owner.now) owners)

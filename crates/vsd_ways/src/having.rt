@@ -15,7 +15,7 @@ ghost use Rattle.vsd_ways.specs.Leads.{HasInterface, IsUpward, LeadsTo};
 ghost use Rattle.vsd_ways.specs.Ways.{AreWays};
 
 use crate::Ways;
-use crate::marks::{Marks, join};
+use crate::marks::{Marks, all_but, has_more, join};
 use vsd_ast::Decl;
 use vsd_lift::{Hierarchy, same_up};
 use vsd_terms::{Term, Terms};
@@ -63,7 +63,7 @@ fn meets(
     true
 }
 
-// Marks the owners of the ways that arguments of a class above meet.
+// Marks the owners of the ways that arguments of a class above meet. A way of owners that are all marked is passed by.
 fn mark_met(
     ways: &Ways,
     decls: &[Decl],
@@ -80,6 +80,9 @@ fn mark_met(
 {
     for i in 0..ways.len() {
         let (known, marks) = ways.at(i);
+        if !has_more(found, marks) {
+            continue;
+        }
         if !meets(known.as_slice(), decls, chain, level, args.as_slice()) {
             continue;
         }
@@ -134,17 +137,25 @@ fn mark_level(h: &Hierarchy<'_>, chain: &[usize], level: usize, table: &[Ways], 
     }
 }
 
-/// For each of the owners whose ways these are whether the lowest class of a chain has it: whether a class of the chain
-/// names an interface that leads to it (ECMA-335, II.12.1). Takes no memory.
-pub fn has_interfaces(h: &Hierarchy<'_>, chain: &[usize], table: &[Ways]) -> Marks
+/// For each of the owners `from..to` whose ways these are whether the lowest class of a chain has it: whether a class of
+/// the chain names an interface that leads to it (ECMA-335, II.12.1). The marks of other owners tell nothing, and ways of
+/// those alone are not compared. Takes no memory.
+pub fn has_interfaces(
+    h: &Hierarchy<'_>,
+    chain: &[usize],
+    table: &[Ways],
+    from: usize,
+    to: usize,
+) -> Marks
     requires settled { IsSettled h.now.decls.now h.now.places.now h.now.depths.now }
     requires upward { IsUpward h.now.decls.now chain.now }
     requires count { length table.now ≡ length h.now.decls.now }
     ensures { (owners : List Term) → AreWays h.now.decls.now owners table.now →
-        (o : ℕ) (owner : Term) → slice_get owners o ≡ Some owner →
+        (o : ℕ) (owner : Term) → from ≤ o → o < to → slice_get owners o ≡ Some owner →
         IsMarked result o ↔ HasInterface h.now.decls.now chain.now owner }
 {
-    let mut found = [false; 64];
+    // An owner that isn't wanted counts as found.
+    let mut found = all_but(from, to);
     for level in 0..chain.len() {
         mark_level(h, chain, level, table, &mut found);
     }

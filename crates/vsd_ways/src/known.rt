@@ -50,7 +50,7 @@ fn join_known(ways: &mut IndexMap<Known, Marks>, known: &[Option<Term>], marks: 
     }
 }
 
-// The same, in memory of its own.
+// What is known, in memory of its own.
 fn copied(alloc: Global, known: &[Option<Term>]) -> Result<Known, AllocError>
     ensures { IfOk result (λ made. made.items ≡ known.now) }
 {

@@ -19,6 +19,6 @@ mod requiring;
 pub use having::has_interfaces;
 pub use known::{Known, Ways};
 pub use laws::interfaces_are_listed;
-pub use marks::Marks;
+pub use marks::{Marks, OWNERS_AT_ONCE};
 pub use order::upward_order;
 pub use requiring::all_ways;

@@ -1,17 +1,20 @@
 //! For which owners a way is one.
-ghost use Rattle.std.specs.Prelude.{◌≡◌, ℕ, ◌<◌, ◌↔◌, ◌⊎◌};
-ghost use Rattle.vsd_ways.specs.Known.{IsMarked};
+ghost use Rattle.std.specs.Prelude.{◌≡◌, ℕ, ◌<◌, ◌≤◌, ◌↔◌, ◌⊎◌, false};
+ghost use Rattle.vsd_ways.specs.Known.{owners_at_once, IsMarked};
 
-/// For each of the owners that are asked for at once whether it is marked. So many are asked for at once, that a way
-/// takes no more memory than this whatever the number of owners is.
-pub type Marks = [bool; 64];
+/// So many owners are asked for at once.
+pub const OWNERS_AT_ONCE: usize = 64;
+
+/// A mark for each of the owners that are asked for at once. A way takes no more memory than this for them, however many
+/// are asked for in all.
+pub type Marks = [bool; OWNERS_AT_ONCE];
 
 /// A mark for one owner.
 pub(crate) fn marked(o: usize) -> Marks
-    requires { o < 64 }
+    requires { o < owners_at_once }
     ensures { (p : ℕ) → IsMarked result p ↔ (p ≡ o) }
 {
-    let mut marks = [false; 64];
+    let mut marks = [false; OWNERS_AT_ONCE];
     marks[o] = true;
     marks
 }
@@ -20,9 +23,30 @@ pub(crate) fn marked(o: usize) -> Marks
 pub(crate) fn join(there: &mut Marks, marks: &Marks)
     ensures { (o : ℕ) → IsMarked there.new o ↔ (IsMarked there.old o ⊎ IsMarked marks.now o) }
 {
-    for o in 0..64 {
-        if marks[o] {
-            there[o] = true;
-        }
+    // Without a branch, so that the compiler can join several marks at once.
+    for o in 0..OWNERS_AT_ONCE {
+        there[o] |= marks[o];
     }
+}
+
+/// Marks for all owners but these.
+pub(crate) fn all_but(from: usize, to: usize) -> Marks
+    ensures { (o : ℕ) → from ≤ o → o < to → ¬ IsMarked result o }
+{
+    let mut marks = [true; OWNERS_AT_ONCE];
+    for o in from..to.min(OWNERS_AT_ONCE) {
+        marks[o] = false;
+    }
+    marks
+}
+
+/// Whether the second row has a mark that the first lacks.
+pub(crate) fn has_more(there: &Marks, marks: &Marks) -> bool
+    ensures { result ≡ false ↔ ((o : ℕ) → IsMarked marks.now o → IsMarked there.now o) }
+{
+    let mut more = false;
+    for o in 0..OWNERS_AT_ONCE {
+        more |= marks[o] & !there[o];
+    }
+    more
 }

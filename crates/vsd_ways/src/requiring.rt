@@ -11,14 +11,14 @@ ghost use Rattle.vsd_ast.specs.Hierarchy.{IsInterface};
 ghost use Rattle.vsd_ast.specs.Lookup.{head_of, is_lawful};
 ghost use Rattle.vsd_lift.specs.Settled.{IsSettled};
 ghost use Rattle.vsd_ways.specs.Found.{SomeOf};
-ghost use Rattle.vsd_ways.specs.Known.{MeetsFor, owners_in};
+ghost use Rattle.vsd_ways.specs.Known.{MeetsFor, owners_at_once, owners_in};
 ghost use Rattle.vsd_ways.specs.Leads.{LeadsTo};
 ghost use Rattle.vsd_ways.specs.Order.{IsOrder};
 ghost use Rattle.vsd_ways.specs.Ways.{AreWays, IsReady, IsWays};
 
 use crate::Ways;
 use crate::binding::{all_known, back};
-use crate::marks::marked;
+use crate::marks::{OWNERS_AT_ONCE, marked};
 use sqlite_items::Items;
 use std::alloc::{AllocError, Global};
 use vsd_ast::Decl;
@@ -33,7 +33,7 @@ fn add_owner(
     o: usize,
     ways: &mut Ways,
 ) -> Result<(), AllocError>
-    requires { o < 64 }
+    requires { o < owners_at_once }
     ensures { OnOk result ((p : ℕ) (args : List Term) → MeetsFor ways.new p args
         ↔ (MeetsFor ways.old p args ⊎ ((p ≡ o) × (Named name args ≡ owner.now)))) }
 {
@@ -52,7 +52,7 @@ fn add_own(alloc: Global, name: u16, owners: &[&Term], ways: &mut Ways) -> Resul
     ensures { OnOk result ((o : ℕ) (args : List Term) → MeetsFor ways.new o args
         ↔ (MeetsFor ways.old o args ⊎ (slice_get (owners_in owners.now) o ≡ Some (Named name args)))) }
 {
-    for o in 0..owners.len().min(64) {
+    for o in 0..owners.len().min(OWNERS_AT_ONCE) {
         add_owner(alloc, name, owners[o], o, ways)?;
     }
     Ok(())
@@ -224,7 +224,8 @@ fn no_ways(alloc: Global, count: usize) -> Result<Items<Ways>, AllocError>
     Ok(table)
 }
 
-/// The ways in which each interface leads to each of the first 64 of the owners, by the number of its declaration.
+/// The ways in which each interface leads to each of the owners, by the number of its declaration. Of more owners than are
+/// asked for at once only the first are.
 pub fn all_ways(
     alloc: Global,
     h: &Hierarchy<'_>,

@@ -1,6 +1,5 @@
 use Rattle.std.proofs.Common.{sym, ◌∙◌}
 use Rattle.std.proofs.lemmas.Bool.{false≢true}
-use Rattle.vsd_overrides.proofs.KnownLemmas.{has_on}
 use Rattle.vsd_overrides.proofs.table.target_of.Goals as goal
 
 pub returns-in_default : goal.returns-in_default
@@ -8,13 +7,10 @@ returns-in_default c t w = c.in_default.ensures t w.means
 
 pub returns-then-not-is_had : goal.returns-then-not-is_had
 returns-then-not-is_had c t w =
-    let exact = c.is_had.ensures c.args.h.now.decls.now c.args.chain.now c.requires.known c.requires.told in
-    false≢true (sym c.if-not-is_had.true ∙ exact.1 (has_on c.args.h.now.decls.now c.args.chain.now c.args.at c.args.o.now.owner c.requires.chained w.has))
+    let exact = c.is_had.ensures c.args.h.now.decls.now c.requires.known c.requires.told in
+    false≢true (sym c.if-not-is_had.true ∙ exact.1 w.has)
 
 pub returns : goal.returns
 returns c =
-    let exact = c.is_had.ensures c.args.h.now.decls.now c.args.chain.now c.requires.known c.requires.told in
-    record {
-      means = c.in-Some.ensures;
-      has = record { chain = c.args.chain.now; upward = c.requires.chained; has = exact.0 c.if-not-is_had.false };
-    }
+    let exact = c.is_had.ensures c.args.h.now.decls.now c.requires.known c.requires.told in
+    record { means = c.in-Some.ensures; has = exact.0 c.if-not-is_had.false }

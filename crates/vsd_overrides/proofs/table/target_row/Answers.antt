@@ -2,7 +2,7 @@ use Rattle.std.proofs.Common.{◌≡◌, ℕ, ◌<◌, ◌≤◌, List, length, 
 use Rattle.std.specs.List.{slice_get}
 use Rattle.std.proofs.lemmas.Bool.{cases_lt}
 use Rattle.std.proofs.lemmas.List.{length_push}
-use Rattle.std.proofs.lemmas.Option.{get_or_from_slice_get, slice_get_read, slice_get_within}
+use Rattle.std.proofs.lemmas.Option.{get_or_from_slice_get, slice_get-get_or, slice_get_read, slice_get_within}
 use Rattle.vsd_ast.specs.declared.declarations.Decl.{Decl}
 use Rattle.vsd_ast.specs.declared.declarations.Override.{Override}
 use Rattle.vsd_lift.proofs.ChainLemmas.{slice_get-left, slice_get-seam}
@@ -10,11 +10,16 @@ use Rattle.vsd_overrides.specs.Targets.{IsTarget}
 use Rattle.vsd_overrides.proofs.table.target_row.Goals as goal
 
 pub target_of-target-requires-clause-told : goal.target_of-target-requires-clause-told
-target_of-target-requires-clause-told c q same =
+target_of-target-requires-clause-told c =
+    let ds = c.args.h.now.decls.now in
+    let at = c.args.at in
+    let x : Decl = get_or ds at c.index-h-at.result in
     let all = c.as_slice-overrides.result.now in
     let o = c.index-overrides-i.result in
+    let here : slice_get ds at ≡ Some x = slice_get-get_or ds at c.index-h-at.result c.requires.within in
     let there : slice_get all c.loop-i.i ≡ Some o = slice_get_read all (length all) c.loop-i.i o refl c.loop-i-test.true c.index-overrides-i.is in
-    c.in_ok-known.ensures.each c.loop-i.i o there q same
+    let one = ap (λ (l : List Override). slice_get l c.loop-i.i) (sym c.as_slice-overrides.ensures) ∙ there in
+    c.requires.told x here c.loop-i.i o one
 
 pub loop-i-preserved : goal.loop-i-preserved
 loop-i-preserved c =

@@ -8,6 +8,21 @@ use Rattle.vsd_ways.proofs.FoundLemmas.{before-split, before-more, before-here, 
 use Rattle.vsd_ways.proofs.WaysLemmas.{meets_same}
 use Rattle.vsd_ways.proofs.having.mark_met.Goals as goal
 
+pub loop-i-preserved-then-not-has_more : goal.loop-i-preserved-then-not-has_more
+loop-i-preserved-then-not-has_more c o =
+    let i = c.loop-i.i in
+    let ways = c.args.ways.now in
+    let way : Way = (c.at.result.0.now.items, c.at.result.1.now) in
+    let P : Way → Type 0 = Serves o (map (lift (envs_of c.args.decls.now c.args.chain.now) c.args.level) c.args.args.now) in
+    let all = c.has_more.ensures.0 c.if-not-has_more.true in
+    let before = c.loop-i.invariant o in (
+      λ m. elim (before.0 m) [ inl old ↦ inl old | inr b ↦ inr (before-more P ways i b) ],
+      λ e. elim e [
+        | inl old ↦ before.1 (inl old)
+        | inr b ↦ (elim (before-split P ways i way c.at.ensures b) [ inl w ↦ before.1 (inr w) | inr p ↦ all o p.0 ])
+      ],
+    )
+
 pub loop-i-preserved-then-not-meets : goal.loop-i-preserved-then-not-meets
 loop-i-preserved-then-not-meets c o =
     let i = c.loop-i.i in

@@ -6,7 +6,7 @@ use Rattle.vsd_ast.specs.declared.declarations.Located.{Located}
 use Rattle.vsd_lift.specs.Settled.{IsSettled}
 use Rattle.vsd_ways.specs.Leads.{IsUpward}
 use Rattle.vsd_ways.proofs.ClassLemmas.{class_at, names_at, upward_ladder}
-use Rattle.vsd_overrides.proofs.owners.names_at.Goals as goal
+use Rattle.vsd_overrides.proofs.asked.names_at.Goals as goal
 
 -- the number at a level is that of a declaration
 number_within : (ds : List Decl) (places depths chain : List ℕ) (level : ℕ) → IsSettled ds places depths → IsUpward ds chain → level < length chain → get_or chain level 0 < length ds
