@@ -7,6 +7,7 @@ pub mod GivenLaws
 pub mod KeptLaws
 pub mod NameLaws
 pub mod NumberLaws
+pub mod OwnLaws
 pub mod PlaceLaws
 pub mod RaggedLaws
 pub mod RankLaws

@@ -1,7 +1,7 @@
 -- Numbers of types, and the types that they are of.
 use Rattle.std.proofs.Common.{◌≡◌, ℕ, ◌<◌, Bool, true, false, ◌||◌, List, [], ◌∷◌, ◌++◌, length, if◌then◌else◌, nat_eq, get_or, All, Some, refl, sym, ap, ◌∙◌}
 use Rattle.std.specs.List.{list_any, slice_get}
-use Rattle.std.proofs.lemmas.Bool.{eq-eqb, eqb-true, false≢true}
+use Rattle.std.proofs.lemmas.Bool.{eq-eqb, eqb-true, false≢true, ne_eqb}
 use Rattle.std.proofs.lemmas.List.{map-append}
 use Rattle.std.proofs.lemmas.List.Folds.{list_any_at}
 use Rattle.std.proofs.lemmas.List.Elements.{All-head, All-tail, All-push}
@@ -16,6 +16,20 @@ use Rattle.vsd_slots.specs.Tables.{types_of}
 -- a number that stands in a list is in it
 pub stands-any : (ns : List ℕ) (n place : ℕ) → slice_get ns place ≡ Some n → list_any (nat_eq n) ns ≡ true
 stands-any ns n place is = list_any_at (nat_eq n) ns place 0 (slice_get_within ns place n is) (eq-eqb n (get_or ns place 0) (sym (get_or_from_slice_get ns place n 0 is)))
+
+-- the test of two numbers, turned round
+turned : (n m : ℕ) → nat_eq m n ≡ nat_eq n m
+turned n m =
+    let M : Bool → Type 0 = λ b. nat_eq n m ≡ b → nat_eq m n ≡ b in
+    let both : M (nat_eq n m) = elim (nat_eq n m) as M [
+      | true ↦ (λ is. eq-eqb m n (sym (eqb-true n m is)))
+      | false ↦ (λ is. ne_eqb m n (λ same. false≢true (sym is ∙ eq-eqb n m (sym same))))
+    ] in
+    both refl
+
+pub any-turned : (n : ℕ) (ns : List ℕ) → list_any (λ m. nat_eq m n) ns ≡ list_any (nat_eq n) ns
+any-turned n [] = refl
+any-turned n (m ∷ ns) = ap (λ b. b || list_any (λ k. nat_eq k n) ns) (turned n m) ∙ ap (λ b. nat_eq n m || b) (any-turned n ns)
 
 module _ (types : List Term) where
   pub number-type : (n : ℕ) (t : Term) → slice_get types n ≡ Some t → type_at types n ≡ t

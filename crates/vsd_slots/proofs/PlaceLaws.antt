@@ -1,9 +1,9 @@
 -- Places of numbers: what they tell of a number, and what stays true of them.
-use Rattle.std.proofs.Common.{◌≡◌, ℕ, zero, suc, ◌+◌, ◌<◌, ◌≤◌, Bool, true, false, List, [], ◌∷◌, ◌++◌, length, nat_eq, get_or, take, if◌then◌else◌, refl, sym, ap, ◌∙◌, arith}
+use Rattle.std.proofs.Common.{◌≡◌, ℕ, zero, suc, ◌+◌, ◌<◌, ◌≤◌, false, List, [], ◌∷◌, ◌++◌, length, nat_eq, get_or, take, if◌then◌else◌, refl, sym, ap, ◌∙◌, arith}
 use Rattle.std.specs.List.{list_any}
-use Rattle.std.proofs.lemmas.Bool.{eq-eqb, eqb-true, false≢true, ne_eqb}
+use Rattle.std.proofs.lemmas.Bool.{ne_eqb}
 use Rattle.std.proofs.lemmas.List.{get_or-take, take_all, take_more}
-use Rattle.std.proofs.lemmas.List.Folds.{list_any_at, list_any_none}
+use Rattle.std.proofs.lemmas.List.Folds.{list_any_none}
 use Rattle.std.proofs.lemmas.List.Sums.{fold_more}
 use Rattle.std.proofs.lemmas.Grind.{common_steps}
 use Rattle.indexmap.specs.IndexSet.{insert_all, insert_key}
@@ -25,19 +25,6 @@ module _ (ns ps : List ℕ) (are : ArePlaces ns ps) where
       let low = are.within k within in
       let at : get_or ps n 0 ≡ k = ap (λ m. get_or ps m 0) (sym is) ∙ are.there k within in
       other (omega (arith, low, is)) (omega (arith, at, within)) (ap (λ j. get_or ns j 0) at ∙ is))
-
-  -- so it tells whether the number is there
-  pub tells : (n : ℕ) → n < length ps → get_or ps n 0 < length ns
-      → nat_eq (get_or ns (get_or ps n 0) 0) n ≡ list_any (nat_eq n) ns
-  tells n low within =
-      let p = get_or ps n 0 in
-      let m = get_or ns p 0 in
-      let M : Bool → Type 0 = λ b. nat_eq m n ≡ b → b ≡ list_any (nat_eq n) ns in
-      let both : M (nat_eq m n) = elim (nat_eq m n) as M [
-        | true ↦ (λ is. sym (list_any_at (nat_eq n) ns p 0 within (eq-eqb n m (sym (eqb-true m n is)))))
-        | false ↦ (λ is. sym (absent n (λ _ _ same. false≢true (sym is ∙ eq-eqb m n same))))
-      ] in
-      both refl
 
   -- a number isn't among those before it
   new-at : (k : ℕ) → k < length ns → list_any (nat_eq (get_or ns k 0)) (take k ns) ≡ false

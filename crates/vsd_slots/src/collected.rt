@@ -1,5 +1,5 @@
 //! Different numbers, in the order in which they are first added.
-ghost use Rattle.std.specs.Prelude.{◌≡◌, ◌<◌, ◌≤◌, ◌∷◌, ◌++◌, [], false, length, nat_eq, OnOk};
+ghost use Rattle.std.specs.Prelude.{◌≡◌, ◌<◌, ◌≤◌, ◌∷◌, ◌++◌, [], false, length, nat_eq, slice_get, MatchOption, OnOk, Some};
 ghost use Rattle.std.specs.List.{list_any, SameBelow};
 ghost use Rattle.indexmap.specs.IndexSet.{insert_all, insert_key};
 
@@ -65,12 +65,24 @@ impl Collected {
         self.numbers.as_slice()
     }
 
-    // Whether a number is there.
-    fn has(&self, number: u16) -> bool
+    /// Where a number stands.
+    pub(crate) fn place(&self, number: u16) -> Option<usize>
+        ensures { MatchOption result (list_any (nat_eq number) self.now ≡ false) (λ place. slice_get self.now place ≡ Some number) }
+    {
+        let place = *self.places.get(usize::from(number))?;
+        let there = *self.numbers.get(place)?;
+        if there != number {
+            return None;
+        }
+        Some(place)
+    }
+
+    /// Whether a number is there.
+    pub(crate) fn has(&self, number: u16) -> bool
         ensures { result ≡ list_any (nat_eq number) self.now }
     {
-        match self.places.get(usize::from(number)) {
-            Some(place) => *place < self.numbers.len() && self.numbers[*place] == number,
+        match self.place(number) {
+            Some(_) => true,
             None => false,
         }
     }

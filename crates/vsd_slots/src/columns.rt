@@ -69,8 +69,8 @@ fn stepped(
     Ok(())
 }
 
-/// Adds what class `t` has for the methods of interface `i`, from what its base has. `near` is where the interface may stand
-/// among those of the class, and `bare` tells that the class has nothing of its own.
+/// Adds what class `t` has for the methods of interface `i`, from what its base has. `has` tells whether the class has the
+/// interface itself, and `bare` that it has nothing of its own.
 pub(crate) fn column(
     checked: &Checked,
     closed: &Closed,
@@ -78,7 +78,7 @@ pub(crate) fn column(
     names: &[Names],
     t: u16,
     i: u16,
-    near: usize,
+    has: bool,
     bare: bool,
     above: &[Entry],
     found: &mut Ragged,
@@ -88,11 +88,11 @@ pub(crate) fn column(
     requires names { AreMethodNames closed.now.decls.list names.now }
     requires class { t < length closed.now.types }
     requires interface { i < length closed.now.types }
+    requires having { IsHaving closed.now t i has }
     requires bare { bare ≡ true → IsBare closed.now t }
     requires above { IsColumn closed.now (base_of closed.now.decls.list (type_at closed.now.types t)) i above.now }
     ensures { OnOk result (Gains (IsColumn closed.now (Some (type_at closed.now.types t)) i) found.old found.new) }
 {
-    let has = has_itself(checked, closed, parts, t, i, near);
     if bare {
         return passed_on(has, above, found);
     }
@@ -145,7 +145,7 @@ fn change(
     requires above { IsColumn closed.now (base_of closed.now.decls.list (type_at closed.now.types t)) i column.old }
     ensures { IsColumn closed.now (Some (type_at closed.now.types t)) i column.new }
 {
-    let has = has_itself(checked, closed, parts, t, i, 0);
+    let has = has_itself(checked, closed, parts, t, i);
     if !has && is_bare(checked, closed, parts, t) {
         return;
     }

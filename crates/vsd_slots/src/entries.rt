@@ -7,7 +7,6 @@ ghost use Rattle.vsd_slots.specs.Entries.{AreParts, IsBare, IsCombined, IsHaving
 use crate::declared::declaration_at;
 use crate::naming::naming;
 use crate::overriding::{Given, first_given, overrides_of};
-use crate::searching::place_near;
 use crate::tables::{Table, own, tabulate};
 use sqlite_items::Items;
 use std::alloc::{AllocError, Global};
@@ -88,15 +87,8 @@ pub(crate) fn combine(
     }
 }
 
-/// Whether class `t` has interface `i` by what it names itself; `near` is where that one may stand among those.
-pub(crate) fn has_itself(
-    checked: &Checked,
-    closed: &Closed,
-    parts: &Parts,
-    t: u16,
-    i: u16,
-    near: usize,
-) -> bool
+/// Whether class `t` has interface `i` by what it names itself.
+pub(crate) fn has_itself(checked: &Checked, closed: &Closed, parts: &Parts, t: u16, i: u16) -> bool
     requires parts { AreParts closed.now (depths_of checked.now) parts.now.table.reached parts.now.table.maps parts.now.given }
     requires class { t < length closed.now.types }
     requires interface { i < length closed.now.types }
@@ -104,10 +96,7 @@ pub(crate) fn has_itself(
 {
     let _decls = checked.decls();
     let _count = closed.count();
-    match place_near(own(closed, parts.table.reached.as_slice(), t), near, i) {
-        Some(_) => true,
-        None => false,
-    }
+    own(closed, parts.table.reached.as_slice(), t).contains(&i)
 }
 
 /// Whether a class has neither methods nor overrides, and so nothing of its own for any interface.

@@ -10,6 +10,7 @@ ghost use Rattle.vsd_slots.specs.Rows.{AreRight, Fills, IsRow};
 ghost use Rattle.vsd_slots.specs.Slots.{AreMade, IsClassDone, IsRefusal};
 ghost use Rattle.vsd_slots.specs.Tables.{IsMap};
 
+use crate::collected::Collected;
 use crate::counting::is_concrete;
 use crate::entries::Parts;
 use crate::error::SlotError;
@@ -58,6 +59,7 @@ fn make(
     names: &[Names],
     t: u16,
     rows: &mut Items<Ragged>,
+    above: &mut Collected,
     kept: &mut Kept,
 ) -> Result<(), AllocError>
     requires together { closed.now.decls ≡ decls_of checked.now }
@@ -77,6 +79,7 @@ fn make(
         names,
         rows.as_slice(),
         t,
+        above,
         kept,
     )?;
     rows.set(t as usize, made);
@@ -93,6 +96,7 @@ fn fill(
     end: u16,
     t: u16,
     rows: &mut Items<Ragged>,
+    above: &mut Collected,
     kept: &mut Kept,
 ) -> Result<(), AllocError>
     requires together { closed.now.decls ≡ decls_of checked.now }
@@ -109,10 +113,12 @@ fn fill(
     }
     match base_below(closed, t, end) {
         Some(base) => {
-            fill(alloc, checked, closed, parts, names, end, base, rows, kept)?;
-            make(alloc, checked, closed, parts, names, t, rows, kept)
+            fill(
+                alloc, checked, closed, parts, names, end, base, rows, above, kept,
+            )?;
+            make(alloc, checked, closed, parts, names, t, rows, above, kept)
         }
-        None => make(alloc, checked, closed, parts, names, t, rows, kept),
+        None => make(alloc, checked, closed, parts, names, t, rows, above, kept),
     }
 }
 
@@ -154,6 +160,7 @@ fn fill_class(
     end: u16,
     t: u16,
     rows: &mut Items<Ragged>,
+    above: &mut Collected,
     kept: &mut Kept,
 ) -> Result<(), SlotError>
     requires together { closed.now.decls ≡ decls_of checked.now }
@@ -171,7 +178,9 @@ fn fill_class(
     if end < closed.count() && !is_concrete(checked, closed, t) {
         return Ok(());
     }
-    fill(alloc, checked, closed, parts, names, end, t, rows, kept)?;
+    fill(
+        alloc, checked, closed, parts, names, end, t, rows, above, kept,
+    )?;
     let row = &rows.as_slice()[t as usize];
     let map = parts.table.maps.as_slice()[t as usize].as_slice();
     see_whole(checked, closed, t, map, row)?;
@@ -196,6 +205,7 @@ pub(crate) fn fill_all(
 {
     let names = method_names(alloc, checked)?;
     let mut rows = no_rows(alloc, closed.count())?;
+    let mut above = Collected::new(alloc);
     let mut kept = Kept::new(alloc);
     for t in 0..end {
         fill_class(
@@ -207,6 +217,7 @@ pub(crate) fn fill_all(
             end,
             t,
             &mut rows,
+            &mut above,
             &mut kept,
         )?;
     }

@@ -5,45 +5,24 @@ ghost use Rattle.std.specs.Option.{option_to_list};
 ghost use Rattle.vsd_types.specs.Numbers.{AreNumbers};
 ghost use Rattle.vsd_types.specs.Types.{base_of, type_at};
 ghost use Rattle.vsd_slots.specs.Columns.{IsBlank, IsColumn};
-ghost use Rattle.vsd_slots.specs.Entries.{AreParts, IsBare};
+ghost use Rattle.vsd_slots.specs.Entries.{AreParts, IsBare, IsHaving};
 ghost use Rattle.vsd_slots.specs.Firsts.{AreMethodNames};
 ghost use Rattle.vsd_slots.specs.Kept.{AreKept, IsPlace};
 ghost use Rattle.vsd_slots.specs.Ragged.{Gains};
-ghost use Rattle.vsd_slots.specs.Rows.{AreRight, IsMade, IsRow};
+ghost use Rattle.vsd_slots.specs.Rows.{AreRight, IsRow};
 
+use crate::collected::Collected;
 use crate::columns::{column, column_above};
 use crate::counting::{add_slots, count_methods};
 use crate::entries::{Entry, NOTHING, Parts, is_bare};
 use crate::kept::Kept;
+use crate::made::{load, made_column};
 use crate::ragged::Ragged;
-use crate::searching::place_near;
 use crate::tables::own;
-use sqlite_items::Items;
 use std::alloc::{AllocError, Global};
 use vsd_check::Checked;
 use vsd_terms::Names;
 use vsd_types::Closed;
-
-// The entries of a type for an interface, where its row is made and has them. `near` is where the interface may stand.
-fn made_column<'a>(
-    maps: &[Items<u16>],
-    rows: &'a [Ragged],
-    t: u16,
-    i: u16,
-    near: usize,
-) -> Option<&'a [Entry]>
-    requires maps { t < length maps.now }
-    requires rows { length rows.now ≡ length maps.now }
-    ensures { IfSome result (λ column. IsMade maps.now rows.now t i column.now) }
-{
-    let map = maps[t as usize].as_slice();
-    let row = &rows[t as usize];
-    if row.count() != map.len() {
-        return None;
-    }
-    let place = place_near(map, near, i)?;
-    Some(row.list(place))
-}
 
 // The place of what the base of class `t` has for interface `i`, which is kept from now on.
 fn kept_place(
@@ -86,8 +65,9 @@ fn add_below(
     t: u16,
     base: u16,
     i: u16,
-    near: usize,
+    has: bool,
     bare: bool,
+    interfaces: &Collected,
     kept: &mut Kept,
     found: &mut Ragged,
 ) -> Result<(), AllocError>
@@ -97,6 +77,7 @@ fn add_below(
     requires right { AreRight closed.now parts.now.table.maps rows.now }
     requires kept { AreKept closed.now kept.old }
     requires class { t < length closed.now.types }
+    requires having { IsHaving closed.now t i has }
     requires bare { bare ≡ true → IsBare closed.now t }
     requires within { base < length closed.now.types }
     requires base { base_of closed.now.decls.list (type_at closed.now.types t) ≡ Some (type_at closed.now.types base) }
@@ -104,16 +85,12 @@ fn add_below(
     ensures column { OnOk result (Gains (IsColumn closed.now (Some (type_at closed.now.types t)) i) found.old found.new) }
     ensures kept { OnOk result (AreKept closed.now kept.new) }
 {
-    if let Some(above) = made_column(parts.table.maps.as_slice(), rows, base, i, near) {
-        return column(
-            checked, closed, parts, names, t, i, near, bare, above, found,
-        );
+    if let Some(above) = made_column(parts.table.maps.as_slice(), rows, base, i, interfaces) {
+        return column(checked, closed, parts, names, t, i, has, bare, above, found);
     }
     let place = kept_place(alloc, checked, closed, parts, names, t, base, i, kept)?;
     let above = kept.columns.list(place);
-    column(
-        checked, closed, parts, names, t, i, near, bare, above, found,
-    )
+    column(checked, closed, parts, names, t, i, has, bare, above, found)
 }
 
 // Adds what class `t` has for the methods of interface `i`.
@@ -128,8 +105,9 @@ fn add_column(
     t: u16,
     base: Option<u16>,
     i: u16,
-    near: usize,
+    has: bool,
     bare: bool,
+    interfaces: &Collected,
     kept: &mut Kept,
     found: &mut Ragged,
 ) -> Result<(), AllocError>
@@ -140,6 +118,7 @@ fn add_column(
     requires blank { IsBlank 256 blank.now }
     requires kept { AreKept closed.now kept.old }
     requires class { t < length closed.now.types }
+    requires having { IsHaving closed.now t i has }
     requires bare { bare ≡ true → IsBare closed.now t }
     requires within { IfSome base (λ b. b < length closed.now.types) }
     requires base { AreNumbers closed.now.types (option_to_list base) (option_to_list (base_of closed.now.decls.list (type_at closed.now.types t))) }
@@ -149,13 +128,12 @@ fn add_column(
 {
     match base {
         Some(base) => add_below(
-            alloc, checked, closed, parts, names, rows, t, base, i, near, bare, kept, found,
+            alloc, checked, closed, parts, names, rows, t, base, i, has, bare, interfaces, kept,
+            found,
         ),
         None => {
             let above = &blank[..count_methods(checked, closed, i) as usize];
-            column(
-                checked, closed, parts, names, t, i, near, bare, above, found,
-            )
+            column(checked, closed, parts, names, t, i, has, bare, above, found)
         }
     }
 }
@@ -180,8 +158,8 @@ fn room_for(
 
 /// The row of a class, from the rows that are made.
 ///
-/// A class's own interfaces come first, and then those of its base in their order: so the k-th mostly stands at place k of
-/// both where it is one of its own, and at as many places less in the base's where it isn't.
+/// The interfaces that a class has itself come first, so it has the k-th itself where k is below their count. `above` is used
+/// for those of its base; what it has before and after is of no matter.
 pub(crate) fn row(
     alloc: Global,
     checked: &Checked,
@@ -190,6 +168,7 @@ pub(crate) fn row(
     names: &[Names],
     rows: &[Ragged],
     t: u16,
+    above: &mut Collected,
     kept: &mut Kept,
 ) -> Result<Ragged, AllocError>
     requires together { closed.now.decls ≡ decls_of checked.now }
@@ -206,12 +185,14 @@ pub(crate) fn row(
     let base = closed.base(t);
     let bare = is_bare(checked, closed, parts, t);
     let blank = [NOTHING; 256];
+    let _count = closed.count();
     let mut found = room_for(alloc, checked, closed, map)?;
+    load(parts, base, above)?;
     for k in 0..map.len() {
-        let near = k.checked_sub(own_count).unwrap_or(k);
+        let has = k < own_count;
         add_column(
-            alloc, checked, closed, parts, names, rows, &blank, t, base, map[k], near, bare, kept,
-            &mut found,
+            alloc, checked, closed, parts, names, rows, &blank, t, base, map[k], has, bare, above,
+            kept, &mut found,
         )?;
     }
     Ok(found)
