@@ -4,6 +4,7 @@
 //! virtual method of the class by name and signature, then what its base has, then such a method of a class above.
 #![tactic(auto)]
 
+mod changing;
 mod collected;
 mod columns;
 mod counting;
@@ -13,9 +14,11 @@ mod error;
 mod filling;
 mod kept;
 mod laws;
+mod marking;
 mod method_names;
 mod missing;
 mod naming;
+mod numbering;
 mod overriding;
 mod ragged;
 mod ranks;
