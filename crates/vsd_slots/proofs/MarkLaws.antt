@@ -1,7 +1,6 @@
 -- Marks of the numbers of names, and what isn't marked.
-use Rattle.std.proofs.Common.{◌≡◌, ℕ, ◌+◌, ◌<◌, ◌≤◌, inl, inr, Bool, true, false, ◌&&◌, nat_eq, if◌then◌else◌, List, [], length, drop, get_or, Option, Some, None, refl, sym, ap, ◌∙◌, subst, arith, get_or-set_same, get_or-set_other}
-use Rattle.std.specs.List.{position_from, slice_get, slice_set}
-use Rattle.std.specs.Option.{option_or}
+use Rattle.std.proofs.Common.{◌≡◌, ℕ, ◌+◌, ◌<◌, inl, inr, Bool, true, false, ◌&&◌, nat_eq, if◌then◌else◌, List, length, get_or, Option, Some, None, refl, sym, ap, ◌∙◌, arith, get_or-set_same, get_or-set_other}
+use Rattle.std.specs.List.{slice_get, slice_set}
 use Rattle.std.proofs.lemmas.Bool.{cases_lt, cases_order, eqb-true, false≢true}
 use Rattle.std.proofs.lemmas.List.{get_or_past}
 use Rattle.std.proofs.lemmas.Option.{same_Some}
@@ -12,7 +11,7 @@ use Rattle.vsd_types.specs.TypeList.{TypeList}
 use Rattle.vsd_types.specs.Types.{args_of, declaration_of, type_at}
 use Rattle.vsd_slots.specs.Givens.{AreGiven, answer_of}
 use Rattle.vsd_slots.specs.Marks.{AreGivenMarked, AreMarked, AreNamesMarked, AreNumbered, IsFree, StaysMarked}
-use Rattle.vsd_slots.specs.Methods.{first_given, methods_in, naming, offering}
+use Rattle.vsd_slots.specs.Methods.{methods_in, naming, offering}
 use Rattle.vsd_slots.specs.declared.overriding.Given.{Given}
 use Rattle.vsd_slots.proofs.NameLaws.{unnamed}
 
