@@ -7,8 +7,8 @@ use Rattle.std.proofs.lemmas.List.{get_or-replicate, get_or-take, get_or_append_
 use Rattle.vsd_terms.specs.declared.term.Term.{Term}
 use Rattle.vsd_types.specs.TypeList.{TypeList}
 use Rattle.vsd_types.specs.Types.{base_of, type_at}
-use Rattle.vsd_slots.specs.Columns.{AreEach, IsBlank, IsColumn}
-use Rattle.vsd_slots.specs.Entries.{IsBare, IsCombined, IsHaving, IsStep, nothing}
+use Rattle.vsd_slots.specs.Columns.{AreEach, IsBlank, IsColumn, IsMadeAt}
+use Rattle.vsd_slots.specs.Entries.{HasNothing, IsBare, IsCombined, IsHaving, IsStep, nothing}
 use Rattle.vsd_slots.specs.Ragged.{Gains, with_more}
 use Rattle.vsd_slots.specs.Refusals.{method_count}
 use Rattle.vsd_slots.specs.declared.entries.ClosedMethod.{ClosedMethod}
@@ -76,26 +76,34 @@ pub record AreChanged (made : ℕ → Entry → Entry → Type 0) (m : ℕ) (old
 pub changed-none : (made : ℕ → Entry → Entry → Type 0) (old : List Entry) → AreChanged made 0 old old
 changed-none made old = record { long = refl; done = λ n within. absurd (omega (arith, within)); rest = λ n le. refl }
 
-pub changed-set : (made : ℕ → Entry → Entry → Type 0) (m : ℕ) (old mid new : List Entry) (a e : Entry) → AreChanged made m old mid → m < length mid → new ≡ slice_set mid m e → a ≡ get_or mid m nothing → made m a e → AreChanged made (m + 1) old new
-changed-set made m old mid new a e before inside is same mine = record {
-  long = ap length is ∙ length-set mid m e ∙ before.long;
+-- one entry is made in place
+pub made-set : (made : ℕ → Entry → Entry → Type 0) (m : ℕ) (old new : List Entry) (a e : Entry) → m < length old → new ≡ slice_set old m e → a ≡ get_or old m nothing → made m a e → IsMadeAt made m old new
+made-set made m old new a e inside is same mine = record {
+  long = ap length is ∙ length-set old m e;
+  here =
+      let read : get_or new m nothing ≡ e = ap (λ (l : List Entry). get_or l m nothing) is ∙ get_or-set_same old m e nothing inside in
+      subst (made m (get_or old m nothing)) (sym read) (subst (λ (x : Entry). made m x e) same mine);
+  others = λ n differs. ap (λ (l : List Entry). get_or l n nothing) is ∙ get_or-set_other old m n e nothing differs;
+}
+
+pub made-same : (made : ℕ → Entry → Entry → Type 0) (m : ℕ) (old : List Entry) (a : Entry) → a ≡ get_or old m nothing → made m a a → IsMadeAt made m old old
+made-same made m old a same mine = record { long = refl; here = subst (λ (x : Entry). made m x x) same mine; others = λ n differs. refl }
+
+pub changed-made : (made : ℕ → Entry → Entry → Type 0) (m : ℕ) (old mid new : List Entry) → AreChanged made m old mid → IsMadeAt made m mid new → AreChanged made (m + 1) old new
+changed-made made m old mid new before at = record {
+  long = at.long ∙ before.long;
   done = λ n within. elim (cases_order n m) [
     | inl here ↦ (
-        let read : get_or new m nothing ≡ e = ap (λ (l : List Entry). get_or l m nothing) is ∙ get_or-set_same mid m e nothing inside in
-        let from : a ≡ get_or old m nothing = same ∙ before.rest m (omega arith) in
-        let now : made m (get_or old m nothing) (get_or new m nothing) = subst (made m (get_or old m nothing)) (sym read) (subst (λ (x : Entry). made m x e) from mine) in
+        let now : made m (get_or old m nothing) (get_or new m nothing) = subst (λ (x : Entry). made m x (get_or new m nothing)) (before.rest m (omega arith)) at.here in
         subst (λ k. made k (get_or old k nothing) (get_or new k nothing)) (sym here) now
         )
     | inr which ↦ (
         let low : n < m = elim which [ inl lt ↦ lt | inr gt ↦ absurd (omega (arith, gt, within)) ] in
-        subst (made n (get_or old n nothing)) (sym (other n (omega (arith, low)))) (before.done n low)
+        subst (made n (get_or old n nothing)) (sym (at.others n (omega (arith, low)))) (before.done n low)
         )
   ];
-  rest = λ n le. other n (omega (arith, le)) ∙ before.rest n (omega (arith, le));
+  rest = λ n le. at.others n (omega (arith, le)) ∙ before.rest n (omega (arith, le));
 }
-  where
-    other : (n : ℕ) → (n ≡ m → ⊥) → get_or new n nothing ≡ get_or mid n nothing
-    other n differs = ap (λ (l : List Entry). get_or l n nothing) is ∙ get_or-set_other mid m n e nothing differs
 
 pub changed-all : (made : ℕ → Entry → Entry → Type 0) (m : ℕ) (old new : List Entry) → AreChanged made m old new → length old ≤ m → AreEach made (length old) old new
 changed-all made m old new changed all = record { long = changed.long; each = λ n within. changed.done n (omega (arith, within, all)) }
@@ -126,13 +134,18 @@ module _ (c : TypeList) (t i : ℕ) where
         entry-step c t i m (get_or above m nothing) (get_or column m nothing) (over.each m inside) (each.each m inside);
   }
 
+  -- nothing of its own for a method makes the entry from that above alone
+  pub passed-step : (m : ℕ) (has : Bool) (above e : Entry) → HasNothing c t i m → IsHaving c t i has → IsCombined None None has above e → IsStep c t i m above e
+  passed-step m has above e none having combined = step-combined c t i m None None has above e (sym none.overriding) (sym none.naming) having combined
+
+  pub unchanged-step : (m : ℕ) (above : Entry) → HasNothing c t i m → IsHaving c t i false → IsStep c t i m above above
+  unchanged-step m above none having = passed-step m false above above none having (passed_none above)
+
   -- a class with nothing of its own makes its entries from those above alone
   pub passed-steps : (has : Bool) (count : ℕ) (above column : List Entry) → i < length c.types → IsBare c t → IsHaving c t i has → AreEach (λ m. IsCombined None None has) count above column → AreEach (IsStep c t i) count above column
   passed-steps has count above column listed bare having each = record {
     long = each.long;
-    each = λ m within.
-        let none = bare i m listed in
-        step-combined c t i m None None has (get_or above m nothing) (get_or column m nothing) (sym none.overriding) (sym none.naming) having (each.each m within);
+    each = λ m within. passed-step m has (get_or above m nothing) (get_or column m nothing) (bare i m listed) having (each.each m within);
   }
 
   pub unchanged-steps : (above : List Entry) → i < length c.types → IsBare c t → IsHaving c t i false → AreEach (IsStep c t i) (length above) above above

@@ -5,6 +5,7 @@ pub mod FillLaws
 pub mod FirstLaws
 pub mod GivenLaws
 pub mod KeptLaws
+pub mod MarkLaws
 pub mod NameLaws
 pub mod NumberLaws
 pub mod OwnLaws

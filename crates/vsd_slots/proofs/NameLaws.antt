@@ -35,28 +35,33 @@ skipped-to test xs k none = let same : 0 + k ≡ k = omega arith in skipped test
 number-contains : (names : List (List ℕ)) (n : ℕ) (name : List ℕ) → slice_get names n ≡ Some name → Contains names name
 number-contains names n name is = (n, slice_get_within names n name is, get_or_from_slice_get names n name name is)
 
-module _ (methods : List Method) (names : List (List ℕ)) (are : AreNamesOf methods names) (interface_args args : List Term) (m : Method) where
-  same_name : (p : Method) → offers_at interface_args m args p ≡ true → p.name ≡ m.name
-  same_name p is =
-      let test = bytes_eq p.name m.name in
-      let first = (and_parts (is_public p.access && test) (same_signature (signature_at args p.signature) (signature_at interface_args m.signature)) is).0 in
-      (bytes_eq-Decides p.name m.name).0 (and_parts (is_public p.access) test first).1
+same_name : (interface_args args : List Term) (m p : Method) → offers_at interface_args m args p ≡ true → p.name ≡ m.name
+same_name interface_args args m p is =
+    let test = bytes_eq p.name m.name in
+    let first = (and_parts (is_public p.access && test) (same_signature (signature_at args p.signature) (signature_at interface_args m.signature)) is).0 in
+    (bytes_eq-Decides p.name m.name).0 (and_parts (is_public p.access) test first).1
 
+-- where no method has the name none is offered
+pub unnamed : (methods : List Method) (interface_args args : List Term) (m : Method) → ((k : ℕ) (p : Method) → slice_get methods k ≡ Some p → p.name ≡ m.name → ⊥) → position_from (offers_at interface_args m args) 0 methods ≡ None
+unnamed methods interface_args args m none =
+    skipped-to (offers_at interface_args m args) methods (length methods) (λ p x within stands. not-true (offers_at interface_args m args x) (λ is. none p x stands (same_name interface_args args m x is))) ∙ position-none (offers_at interface_args m args) methods (length methods) (omega arith)
+
+module _ (methods : List Method) (names : List (List ℕ)) (are : AreNamesOf methods names) (interface_args args : List Term) (m : Method) where
   -- a method of the name has the name's number or a greater place
   pub begins-at : (n : ℕ) → slice_get names n ≡ Some m.name → ((i j : ℕ) (name : List ℕ) → slice_get names i ≡ Some name → slice_get names j ≡ Some name → i ≡ j) → position_from (offers_at interface_args m args) 0 methods ≡ position_from (offers_at interface_args m args) n (drop n methods)
   begins-at n there distinct =
       skipped-to (offers_at interface_args m args) methods n (λ p x within stands. not-true (offers_at interface_args m args x) (λ is.
       let at = are p x stands in
-      let name : slice_get names at.0 ≡ Some m.name = at.1 ∙ ap Some (same_name x is) in
+      let name : slice_get names at.0 ≡ Some m.name = at.1 ∙ ap Some (same_name interface_args args m x is) in
       let same = distinct at.0 n m.name name there in
       omega (arith, within, same, at.2)))
 
   -- no method has a name that isn't there
   pub has-none : (Contains names m.name → ⊥) → position_from (offers_at interface_args m args) 0 methods ≡ None
   has-none absent =
-      skipped-to (offers_at interface_args m args) methods (length methods) (λ p x within stands. not-true (offers_at interface_args m args x) (λ is.
-      let at = are p x stands in
-      absurd (absent (number-contains names at.0 m.name (at.1 ∙ ap Some (same_name x is)))))) ∙ position-none (offers_at interface_args m args) methods (length methods) (omega arith)
+      unnamed methods interface_args args m (λ k p stands same.
+      let at = are k p stands in
+      absent (number-contains names at.0 m.name (at.1 ∙ ap Some same)))
 
 -- ---- the names of methods, one after another
 

@@ -17,6 +17,12 @@ pub record AreEach (made : ℕ → Entry → Entry → Type 0) (count : ℕ) (ab
   pub long : length column ≡ count
   pub each : (m : ℕ) → m < count → made m (slice_index_or above m nothing) (slice_index_or column m nothing)
 
+-- the entry at a place is made from the one that was there, and the others are as they were
+pub record IsMadeAt (made : ℕ → Entry → Entry → Type 0) (m : ℕ) (old new : List Entry) : Type 0 where
+  pub long : length new ≡ length old
+  pub here : made m (slice_index_or old m nothing) (slice_index_or new m nothing)
+  pub others : (n : ℕ) → (n ≡ m → ⊥) → slice_index_or new n nothing ≡ slice_index_or old n nothing
+
 -- the entries of a type, over those above it, for the methods of an interface
 pub record IsColumn (c : TypeList) (o : Option Term) (i : ℕ) (column : List Entry) : Type 0 where
   pub long : length column ≡ method_count c.decls.list (type_at c.types i)

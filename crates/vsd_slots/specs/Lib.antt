@@ -9,6 +9,7 @@ pub mod Implementation
 pub mod Interfaces
 pub mod Kept
 pub mod Lineage
+pub mod Marks
 pub mod Methods
 pub mod Missing
 pub mod Places

@@ -1,16 +1,21 @@
 //! What a class has for each method of an interface, from what its base has.
 ghost use Rattle.std.specs.Prelude.{◌≡◌, ◌<◌, ◌≤◌, None, Some, length, IfOk, OnOk, false, true};
 ghost use Rattle.vsd_check.specs.Checked.{decls_of, depths_of};
-ghost use Rattle.vsd_types.specs.Types.{base_of, type_at};
+ghost use Rattle.vsd_types.specs.Types.{base_of, declaration_of, type_at};
 ghost use Rattle.vsd_slots.specs.Columns.{AreEach, IsBlank, IsColumn};
 ghost use Rattle.vsd_slots.specs.Entries.{AreParts, IsBare, IsCombined, IsHaving, IsStep};
 ghost use Rattle.vsd_slots.specs.Firsts.{AreMethodNames};
 ghost use Rattle.vsd_slots.specs.Kept.{AreKept};
+ghost use Rattle.vsd_slots.specs.Marks.{AreNumbered};
+ghost use Rattle.vsd_slots.specs.Methods.{methods_in};
 ghost use Rattle.vsd_slots.specs.Ragged.{Gains};
 
+use crate::changing::change;
 use crate::counting::count_methods;
-use crate::entries::{Entry, NOTHING, Parts, combine, has_itself, is_bare, step};
+use crate::entries::{Entry, NOTHING, Parts, combine, step};
 use crate::kept::Kept;
+use crate::method_names::names_at;
+use crate::numbering::{Numbers, numbers_at};
 use crate::ragged::Ragged;
 use sqlite_items::Items;
 use std::alloc::{AllocError, Global};
@@ -100,57 +105,43 @@ pub(crate) fn column(
     stepped(checked, closed, parts, names, t, i, has, above, found)
 }
 
-// Makes of what the base of class `t` has what the class has, in place.
-fn step_each(
+// What the base of class `t` has for the methods of interface `i`, which have these numbers among the wanted names.
+fn column_over(
+    alloc: Global,
     checked: &Checked,
     closed: &Closed,
     parts: &Parts,
     names: &[Names],
+    wanted: &Names,
+    numbers: &Numbers,
+    kept: &Kept,
     t: u16,
     i: u16,
-    has: bool,
-    column: &mut Items<Entry>,
-)
+) -> Result<Items<Entry>, AllocError>
     requires together { closed.now.decls ≡ decls_of checked.now }
     requires parts { AreParts closed.now (depths_of checked.now) parts.now.table.reached parts.now.table.maps parts.now.given }
     requires names { AreMethodNames closed.now.decls.list names.now }
+    requires numbers { AreNumbered (methods_in (declaration_of closed.now.decls.list (type_at closed.now.types i))) wanted.now numbers.now }
+    requires kept { AreKept closed.now kept.now }
     requires class { t < length closed.now.types }
     requires interface { i < length closed.now.types }
-    requires having { IsHaving closed.now t i has }
-    requires few { length column.old ≤ 256 }
-    ensures { AreEach (IsStep closed.now t i) (length column.old) column.old column.new }
+    ensures { IfOk result (IsColumn closed.now (base_of closed.now.decls.list (type_at closed.now.types t)) i) }
 {
-    for m in 0..column.len() {
-        let above = column.as_slice()[m];
-        let entry = step(checked, closed, parts, names, t, i, m as u16, has, above);
-        column.set(m, entry);
+    match closed.base(t) {
+        None => blank(alloc, count_methods(checked, closed, i)),
+        Some(base) => {
+            if let Some(place) = kept.place(base, i) {
+                return Items::from_slice(alloc, kept.columns.list(place));
+            }
+            let mut found = column_over(
+                alloc, checked, closed, parts, names, wanted, numbers, kept, base, i,
+            )?;
+            change(
+                checked, closed, parts, names, wanted, numbers, base, i, &mut found,
+            );
+            Ok(found)
+        }
     }
-}
-
-// The same. A class with nothing of its own changes nothing.
-fn change(
-    checked: &Checked,
-    closed: &Closed,
-    parts: &Parts,
-    names: &[Names],
-    t: u16,
-    i: u16,
-    column: &mut Items<Entry>,
-)
-    requires together { closed.now.decls ≡ decls_of checked.now }
-    requires parts { AreParts closed.now (depths_of checked.now) parts.now.table.reached parts.now.table.maps parts.now.given }
-    requires names { AreMethodNames closed.now.decls.list names.now }
-    requires class { t < length closed.now.types }
-    requires interface { i < length closed.now.types }
-    requires above { IsColumn closed.now (base_of closed.now.decls.list (type_at closed.now.types t)) i column.old }
-    ensures { IsColumn closed.now (Some (type_at closed.now.types t)) i column.new }
-{
-    let has = has_itself(checked, closed, parts, t, i);
-    if !has && is_bare(checked, closed, parts, t) {
-        return;
-    }
-    let _few = count_methods(checked, closed, i);
-    step_each(checked, closed, parts, names, t, i, has, column);
 }
 
 /// What the base of class `t` has for the methods of interface `i`, from the nearest class above of which that is kept.
@@ -172,15 +163,12 @@ pub(crate) fn column_above(
     requires interface { i < length closed.now.types }
     ensures { IfOk result (IsColumn closed.now (base_of closed.now.decls.list (type_at closed.now.types t)) i) }
 {
-    match closed.base(t) {
-        None => blank(alloc, count_methods(checked, closed, i)),
-        Some(base) => {
-            if let Some(place) = kept.place(base, i) {
-                return Items::from_slice(alloc, kept.columns.list(place));
-            }
-            let mut found = column_above(alloc, checked, closed, parts, names, kept, base, i)?;
-            change(checked, closed, parts, names, base, i, &mut found);
-            Ok(found)
-        }
-    }
+    // A built-in has no methods.
+    let Some(wanted) = names_at(closed, names, i) else {
+        return Ok(Items::new(alloc));
+    };
+    let numbers = numbers_at(checked, closed, wanted, i);
+    column_over(
+        alloc, checked, closed, parts, names, wanted, &numbers, kept, t, i,
+    )
 }

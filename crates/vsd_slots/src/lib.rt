@@ -4,6 +4,7 @@
 //! virtual method of the class by name and signature, then what its base has, then such a method of a class above.
 #![tactic(auto)]
 
+mod changing;
 mod collected;
 mod columns;
 mod counting;
@@ -14,9 +15,11 @@ mod filling;
 mod kept;
 mod laws;
 mod made;
+mod marking;
 mod method_names;
 mod missing;
 mod naming;
+mod numbering;
 mod overriding;
 mod ragged;
 mod ranks;

@@ -1,7 +1,7 @@
 use Rattle.std.proofs.Common.{Bool, subst}
 use Rattle.vsd_slots.specs.Entries.{IsHaving}
 use Rattle.vsd_slots.proofs.ColumnLaws.{stepped-column, unchanged-steps}
-use Rattle.vsd_slots.proofs.columns.change.Goals as goal
+use Rattle.vsd_slots.proofs.changing.change.Goals as goal
 
 pub returns-then-is_bare : goal.returns-then-is_bare
 returns-then-is_bare c =

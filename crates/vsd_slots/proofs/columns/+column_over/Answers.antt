@@ -8,10 +8,10 @@ use Rattle.vsd_slots.specs.Ranks.{rank_of}
 use Rattle.vsd_slots.specs.declared.entries.Entry.{Entry}
 use Rattle.vsd_slots.proofs.EntryLaws.{base-some}
 use Rattle.vsd_slots.proofs.RankLaws.{base-falls}
-use Rattle.vsd_slots.proofs.columns.+column_above.Goals as goal
+use Rattle.vsd_slots.proofs.columns.+column_over.Goals as goal
 
-pub column_above-requires : goal.column_above-requires
-column_above-requires t c =
+pub column_over-requires : goal.column_over-requires
+column_over-requires t c =
     let s = c.args.closed.now in
     let ds = s.decls.list in
     let depths = depths_of c.args.checked.now in
@@ -19,7 +19,7 @@ column_above-requires t c =
     let is = base-some s c.args.t c.args.i 0 c.base.result c.base.ensures.number b c.in-Some.is in
     let lower = base-falls ds depths c.requires.parts.hierarchy (type_at s.types c.args.t) (type_at s.types b) is in
     let falls : rank_of ds depths (type_at s.types b) < t = omega (arith, c.decreases, lower) in
-    (falls, (c.requires.together, (c.requires.parts, (c.requires.names, (c.requires.kept, (c.in-Some.ensures.within, c.requires.interface))))))
+    (falls, (c.requires.together, (c.requires.parts, (c.requires.names, (c.requires.numbers, (c.requires.kept, (c.in-Some.ensures.within, c.requires.interface)))))))
 
 pub returns-in-Some-place : goal.returns-in-Some-place
 returns-in-Some-place t c =
