@@ -4,9 +4,8 @@ use Rattle.vsd_terms.specs.declared.term.Term.{Term}
 use Rattle.vsd_terms.specs.Equality.{term_eq}
 use Rattle.vsd_ast.specs.declared.declarations.Decl.{Decl}
 use Rattle.vsd_ast.specs.declared.declarations.Override.{Override}
-use Rattle.vsd_ways.specs.Known.{owners_at_once, IsMarked}
+use Rattle.vsd_ways.specs.Known.{owners_at_once, IsMarked, Way}
 use Rattle.vsd_ways.specs.Ways.{AreWays}
-use Rattle.vsd_ways.specs.Known.{Way}
 use Rattle.vsd_overrides.specs.Implements.{HasOwner}
 use Rattle.vsd_overrides.specs.declared.asked.Question.{Question}
 

@@ -1,4 +1,4 @@
-//! Which classes are asked whether they have the owners of their overrides: those that name them nowhere.
+//! Which classes are asked whether they have an owner: those that, with the classes above them, name it nowhere.
 ghost use Rattle.std.specs.Prelude.{◌≡◌, ℕ, ◌<◌, length, slice_get, Some, IsTrue, OnOk};
 ghost use Rattle.std.specs.HashMap.{get};
 ghost use Rattle.std.specs.HashSet.{contains};
