@@ -76,19 +76,6 @@ pub record AreChanged (made : ℕ → Entry → Entry → Type 0) (m : ℕ) (old
 pub changed-none : (made : ℕ → Entry → Entry → Type 0) (old : List Entry) → AreChanged made 0 old old
 changed-none made old = record { long = refl; done = λ n within. absurd (omega (arith, within)); rest = λ n le. refl }
 
--- one entry is made in place
-pub made-set : (made : ℕ → Entry → Entry → Type 0) (m : ℕ) (old new : List Entry) (a e : Entry) → m < length old → new ≡ slice_set old m e → a ≡ get_or old m nothing → made m a e → IsMadeAt made m old new
-made-set made m old new a e inside is same mine = record {
-  long = ap length is ∙ length-set old m e;
-  here =
-      let read : get_or new m nothing ≡ e = ap (λ (l : List Entry). get_or l m nothing) is ∙ get_or-set_same old m e nothing inside in
-      subst (made m (get_or old m nothing)) (sym read) (subst (λ (x : Entry). made m x e) same mine);
-  others = λ n differs. ap (λ (l : List Entry). get_or l n nothing) is ∙ get_or-set_other old m n e nothing differs;
-}
-
-pub made-same : (made : ℕ → Entry → Entry → Type 0) (m : ℕ) (old : List Entry) (a : Entry) → a ≡ get_or old m nothing → made m a a → IsMadeAt made m old old
-made-same made m old a same mine = record { long = refl; here = subst (λ (x : Entry). made m x x) same mine; others = λ n differs. refl }
-
 pub changed-made : (made : ℕ → Entry → Entry → Type 0) (m : ℕ) (old mid new : List Entry) → AreChanged made m old mid → IsMadeAt made m mid new → AreChanged made (m + 1) old new
 changed-made made m old mid new before at = record {
   long = at.long ∙ before.long;
@@ -137,9 +124,6 @@ module _ (c : TypeList) (t i : ℕ) where
   -- nothing of its own for a method makes the entry from that above alone
   pub passed-step : (m : ℕ) (has : Bool) (above e : Entry) → HasNothing c t i m → IsHaving c t i has → IsCombined None None has above e → IsStep c t i m above e
   passed-step m has above e none having combined = step-combined c t i m None None has above e (sym none.overriding) (sym none.naming) having combined
-
-  pub unchanged-step : (m : ℕ) (above : Entry) → HasNothing c t i m → IsHaving c t i false → IsStep c t i m above above
-  unchanged-step m above none having = passed-step m false above above none having (passed_none above)
 
   -- a class with nothing of its own makes its entries from those above alone
   pub passed-steps : (has : Bool) (count : ℕ) (above column : List Entry) → i < length c.types → IsBare c t → IsHaving c t i has → AreEach (λ m. IsCombined None None has) count above column → AreEach (IsStep c t i) count above column
