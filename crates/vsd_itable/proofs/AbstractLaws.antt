@@ -24,8 +24,8 @@ use Rattle.vsd_types.specs.Types.{base_of, base_of_head, builtin_base, declarati
 use Rattle.vsd_types.proofs.BaseLemmas.{head_of-Builtin}
 use Rattle.vsd_types.proofs.Declared.{declared-place, place_of-within}
 use Rattle.vsd_slots.specs.Implementation.{Found}
-use Rattle.vsd_slots.specs.Lineage.{IsLineage, Level}
-use Rattle.vsd_slots.specs.Methods.{methods_in}
+use Rattle.vsd_interfaces.specs.Lineage.{IsLineage, Level}
+use Rattle.vsd_methods.specs.Methods.{methods_in}
 use Rattle.vsd_slots.specs.Refusals.{is_concrete, is_concrete_class}
 use Rattle.vsd_itable.specs.Bodies.{DeclaresNone, HasRoot, IsBody, IsLast, declared, inherited}
 use Rattle.vsd_itable.specs.Selection.{IsBodyFor, IsSelection}

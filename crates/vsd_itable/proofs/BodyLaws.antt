@@ -20,8 +20,8 @@ use Rattle.vsd_terms.specs.declared.term.Builtin.TheVariants.{Object}
 use Rattle.vsd_types.proofs.BaseLemmas.{head_of-Builtin}
 use Rattle.vsd_types.proofs.Declared.{declared-place}
 use Rattle.vsd_slots.specs.declared.entries.ClosedMethod.{ClosedMethod}
-use Rattle.vsd_slots.specs.Lineage.{IsLineage, Level}
-use Rattle.vsd_slots.specs.Methods.{methods_in}
+use Rattle.vsd_interfaces.specs.Lineage.{IsLineage, Level}
+use Rattle.vsd_methods.specs.Methods.{methods_in}
 use Rattle.vsd_slots.specs.Refusals.{IsMissing, method_count}
 use Rattle.vsd_itable.specs.Bodies.{DeclaresNone, HasNoBody, HasRoot, IsUpward, above, further, inherited, itself, top}
 use Rattle.vsd_itable.specs.Places.{IsBodyAt, IsLastWith, IsOwnBody}

@@ -14,8 +14,8 @@ use Rattle.vsd_types.specs.Types.{args_of, base_of, base_of_head, declared_base,
 use Rattle.vsd_types.proofs.BaseLemmas.{head_of-Builtin}
 use Rattle.vsd_types.proofs.Declared.{declared-All, declared-place, place_of-within}
 use Rattle.vsd_terms.specs.declared.term.Builtin.TheVariants.{Object}
-use Rattle.vsd_slots.proofs.RankLaws.{head-subst}
-use Rattle.vsd_slots.specs.Lineage.{IsLineage, Level}
+use Rattle.vsd_interfaces.proofs.RankLaws.{head-subst}
+use Rattle.vsd_interfaces.specs.Lineage.{IsLineage, Level}
 
 same_some : {A : Type 0} {x y : A} → Some x ≡ Some y → x ≡ y
 same_some e = cc

@@ -17,10 +17,10 @@ use Rattle.vsd_ast.specs.WellFormed.{IsDeclaration, IsImplementer, IsOverride}
 use Rattle.vsd_types.specs.Types.{args_of, declaration_of, declaration_of_head}
 use Rattle.vsd_types.proofs.Declared.{declared-All}
 use Rattle.vsd_slots.specs.Implementation.{Found, by_name, by_override, found_in, has, implementation, nearest, where_has}
-use Rattle.vsd_slots.specs.Lineage.{Level}
-use Rattle.vsd_slots.specs.Methods.{first_given, given_by, gives, methods_in, naming, offering, offers_at, overrides_in, overriding, same_signature, slot_of}
+use Rattle.vsd_interfaces.specs.Lineage.{Level}
+use Rattle.vsd_methods.specs.Methods.{first_given, given_by, gives, methods_in, naming, offering, offers_at, overrides_in, overriding, same_signature, slot_of}
 use Rattle.vsd_slots.specs.Refusals.{method_count}
-use Rattle.vsd_slots.proofs.SearchLaws.{position-inside}
+use Rattle.vsd_methods.proofs.SearchLaws.{position-inside}
 
 same_some : {A : Type 0} {x y : A} → Some x ≡ Some y → x ≡ y
 same_some e = cc

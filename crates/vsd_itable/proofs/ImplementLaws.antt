@@ -12,11 +12,11 @@ use Rattle.vsd_types.specs.TypeList.{TypeList}
 use Rattle.vsd_types.specs.Types.{declaration_of_head, type_at}
 use Rattle.vsd_slots.specs.Entries.{found_of}
 use Rattle.vsd_slots.specs.Implementation.{IsImplementation, implementation}
-use Rattle.vsd_slots.specs.Methods.{methods_in}
+use Rattle.vsd_methods.specs.Methods.{methods_in}
 use Rattle.vsd_slots.specs.Refusals.{method_count}
-use Rattle.vsd_slots.specs.Tables.{IsMap, types_of}
+use Rattle.vsd_interfaces.specs.Tables.{IsMap, types_of}
 use Rattle.vsd_slots.specs.declared.entries.ClosedMethod.{ClosedMethod}
-use Rattle.vsd_slots.proofs.ReachLaws.{declared-above}
+use Rattle.vsd_slots.proofs.DecidingLaws.{declared-above}
 use Rattle.vsd_itable.specs.Bodies.{HasRoot, IsUpward}
 use Rattle.vsd_itable.specs.Filling.{IsDeclaredFrom, IsImplementing}
 use Rattle.vsd_itable.specs.Places.{IsBodyAt, IsMatchPlace}

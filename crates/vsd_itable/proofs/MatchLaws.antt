@@ -10,8 +10,8 @@ use Rattle.vsd_ast.specs.declared.declarations.Decl.{Decl}
 use Rattle.vsd_types.specs.Numbers.{IsDistinct}
 use Rattle.vsd_types.specs.TypeList.{TypeList}
 use Rattle.vsd_types.specs.Types.{object, type_at}
-use Rattle.vsd_slots.specs.Tables.{types_of}
-use Rattle.vsd_slots.proofs.NumberLaws.{same_number}
+use Rattle.vsd_interfaces.specs.Tables.{types_of}
+use Rattle.vsd_interfaces.proofs.NumberLaws.{same_number}
 use Rattle.vsd_itable.specs.Matching.{IsMatchAmong, Suits}
 use Rattle.vsd_itable.specs.Places.{IsFirstPlace, IsMatchPlace, IsPlaceOf, SuitsAt}
 

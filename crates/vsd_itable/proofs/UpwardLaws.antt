@@ -7,13 +7,13 @@ use Rattle.vsd_terms.specs.declared.term.Term.{Term}
 use Rattle.vsd_ast.specs.declared.declarations.Decl.{Decl}
 use Rattle.vsd_types.specs.Numbers.{IsDistinct}
 use Rattle.vsd_types.specs.Types.{base_of, is_interface_type}
-use Rattle.vsd_slots.specs.Interfaces.{AreInterfaces, firsts}
-use Rattle.vsd_slots.specs.Lineage.{IsLineage, Level, all_interfaces}
-use Rattle.vsd_slots.specs.Reaching.{Reaches}
+use Rattle.vsd_interfaces.specs.Interfaces.{AreInterfaces, firsts}
+use Rattle.vsd_interfaces.specs.Lineage.{IsLineage, Level, all_interfaces}
+use Rattle.vsd_interfaces.specs.Reached.{Reaches}
 use Rattle.vsd_slots.specs.Refusals.{AreAll}
-use Rattle.vsd_slots.proofs.FirstLaws.{firsts-append, has-after}
-use Rattle.vsd_slots.proofs.ReachLaws.{all-distinct, firsts-from, lists-reached, none_has}
-use Rattle.vsd_slots.proofs.SlotLaws.{interfaces-unique, lineage-unique}
+use Rattle.vsd_interfaces.proofs.FirstLaws.{firsts-append, has-after}
+use Rattle.vsd_interfaces.proofs.ReachLaws.{all-distinct, firsts-from, lists-reached, none_has}
+use Rattle.vsd_interfaces.proofs.UniqueLaws.{interfaces-unique, lineage-unique}
 use Rattle.vsd_itable.specs.Bodies.{IsUpward, above, itself}
 use Rattle.vsd_itable.specs.Laws.{ListsUpward, NearestComeFirst}
 use Rattle.vsd_itable.proofs.BodyLaws.{lineage-upward}

@@ -8,9 +8,9 @@ use Rattle.vsd_ast.specs.Hierarchy.{IsHierarchy}
 use Rattle.vsd_check.specs.Conditions.{AreLawful}
 use Rattle.vsd_types.specs.Numbers.{IsDistinct}
 use Rattle.vsd_types.specs.Types.{base_of, declaration_of, is_interface_type}
-use Rattle.vsd_slots.specs.Interfaces.{AreInterfaces, firsts}
-use Rattle.vsd_slots.specs.Reaching.{Reaches}
-use Rattle.vsd_slots.specs.Methods.{methods_in}
+use Rattle.vsd_interfaces.specs.Interfaces.{AreInterfaces, firsts}
+use Rattle.vsd_interfaces.specs.Reached.{Reaches}
+use Rattle.vsd_methods.specs.Methods.{methods_in}
 use Rattle.vsd_slots.specs.Implementation.{Found, IsImplementation}
 use Rattle.vsd_slots.specs.Refusals.{AreAll, is_concrete, method_count}
 use Rattle.vsd_itable.specs.Bodies.{IsUpward}

@@ -9,11 +9,11 @@ use Rattle.vsd_types.specs.TypeList.{TypeList}
 use Rattle.vsd_types.specs.Types.{base_of, type_at}
 use Rattle.vsd_slots.specs.Entries.{IsCombined, IsEntry, IsHaving, IsOver, IsStep, found_of, method_at, nothing}
 use Rattle.vsd_slots.specs.Implementation.{Found, found_in, implementation, nearest}
-use Rattle.vsd_slots.specs.Lineage.{IsLineage, Level}
-use Rattle.vsd_slots.specs.Methods.{naming, overriding}
+use Rattle.vsd_interfaces.specs.Lineage.{IsLineage, Level}
+use Rattle.vsd_methods.specs.Methods.{naming, overriding}
 use Rattle.vsd_slots.specs.declared.entries.ClosedMethod.{ClosedMethod}
 use Rattle.vsd_slots.specs.declared.entries.Entry.{Entry}
-use Rattle.vsd_slots.proofs.NumberLaws.{number-type}
+use Rattle.vsd_interfaces.proofs.NumberLaws.{number-type}
 
 found-or : (types : List Term) (a b : Option ClosedMethod) → found_of types (option_or a b) ≡ option_or (found_of types a) (found_of types b)
 found-or types None b = refl

@@ -1,6 +1,6 @@
 -- Rows that are made one after another.
-use Rattle.std.proofs.Common.{◌≡◌, ℕ, suc, ◌+◌, ◌<◌, ◌≤◌, inl, inr, true, List, [], ◌∷◌, ◌++◌, length, get_or, All, Option, Some, None, refl, sym, ap, ◌∙◌, subst, arith, get_or-set_same, get_or-set_other}
-use Rattle.std.specs.List.{slice_get, slice_set}
+use Rattle.std.proofs.Common.{◌≡◌, ℕ, ◌+◌, ◌<◌, ◌≤◌, inl, inr, List, [], ◌∷◌, ◌++◌, length, get_or, All, Option, Some, None, refl, sym, ap, ◌∙◌, subst, arith, get_or-set_same, get_or-set_other}
+use Rattle.std.specs.List.{slice_set}
 use Rattle.std.proofs.lemmas.Bool.{cases_lt, cases_order}
 use Rattle.std.proofs.lemmas.List.{get_or_append_left, get_or_push, length-append, length-set}
 use Rattle.std.proofs.lemmas.Option.{get_or_from_slice_get, slice_get_within}
@@ -11,12 +11,11 @@ use Rattle.vsd_types.specs.TypeList.{TypeList}
 use Rattle.vsd_types.specs.Types.{declaration_of_head, type_at}
 use Rattle.vsd_types.proofs.Declared.{declared-All}
 use Rattle.vsd_slots.specs.Columns.{IsColumn}
-use Rattle.vsd_slots.specs.Methods.{methods_in}
-use Rattle.vsd_slots.specs.Refusals.{IsTotal, IsWhole, IsWithinLimit, Passes}
+use Rattle.vsd_methods.specs.Methods.{methods_in}
 use Rattle.vsd_slots.specs.Rows.{AreRight, Fills, IsFull, IsMade, IsRow, IsRowOf}
 use Rattle.vsd_slots.specs.Slots.{AreFilled, AreMade, IsClassDone}
 use Rattle.vsd_slots.specs.declared.entries.Entry.{Entry}
-use Rattle.vsd_slots.proofs.SearchLaws.{read_any}
+use Rattle.vsd_interfaces.proofs.ReadLaws.{read_any}
 
 -- a type has few methods
 few_methods : (ds : List Decl) (names : ℕ) → All (IsDeclaration names) ds → (g : Head) → length (methods_in (declaration_of_head ds g)) ≤ 256

@@ -8,11 +8,11 @@ use Rattle.vsd_ast.specs.declared.declarations.Decl.{Decl}
 use Rattle.vsd_ast.specs.declared.declarations.Method.{Method}
 use Rattle.vsd_types.specs.TypeList.{TypeList}
 use Rattle.vsd_types.specs.Types.{args_of, declaration_of, type_at}
-use Rattle.vsd_slots.specs.Givens.{AreGiven}
+use Rattle.vsd_methods.specs.Givens.{AreGiven}
 use Rattle.vsd_slots.specs.Marks.{AreGivenMarked, AreMarked, AreNamesMarked, AreNumbered, IsFree, StaysMarked}
-use Rattle.vsd_slots.specs.Methods.{methods_in, naming, offering}
-use Rattle.vsd_slots.specs.declared.overriding.Given.{Given}
-use Rattle.vsd_slots.proofs.NameLaws.{unnamed}
+use Rattle.vsd_methods.specs.Methods.{methods_in, naming, offering}
+use Rattle.vsd_methods.specs.declared.overriding.Given.{Given}
+use Rattle.vsd_methods.proofs.NameLaws.{unnamed}
 
 -- one more method has its number
 pub numbers-set : (methods : List Method) (names : List (List ℕ)) (old : List ℕ) (m number : ℕ) (p : Method) → m < length old → slice_get methods m ≡ Some p → slice_get names number ≡ Some p.name → ((k : ℕ) (x : Method) → k < m → slice_get methods k ≡ Some x → slice_get names (get_or old k 0) ≡ Some x.name) → (k : ℕ) (x : Method) → k < m + 1 → slice_get methods k ≡ Some x → slice_get names (get_or (slice_set old m number) k 0) ≡ Some x.name

@@ -15,14 +15,14 @@ use Rattle.vsd_types.specs.Numbers.{IsDistinct}
 use Rattle.vsd_types.specs.TypeList.{TypeList}
 use Rattle.vsd_types.specs.Types.{is_interface_type, named_of, object, type_at}
 use Rattle.vsd_slots.specs.Entries.{IsHaving}
-use Rattle.vsd_slots.specs.Interfaces.{AreInterfaces, firsts, tree}
-use Rattle.vsd_slots.specs.Lineage.{IsLineage, Level, all_interfaces}
-use Rattle.vsd_slots.specs.Tables.{AreOwn, IsMap, IsReached, types_of}
-use Rattle.vsd_slots.proofs.FirstLaws.{insert-firsts}
-use Rattle.vsd_slots.proofs.ReachLaws.{all-distinct}
-use Rattle.vsd_slots.proofs.RowLaws.{own-are}
-use Rattle.vsd_slots.proofs.SearchLaws.{read_any}
-use Rattle.vsd_slots.proofs.SlotLaws.{interfaces-unique}
+use Rattle.vsd_interfaces.specs.Interfaces.{AreInterfaces, firsts, tree}
+use Rattle.vsd_interfaces.specs.Lineage.{IsLineage, Level, all_interfaces}
+use Rattle.vsd_interfaces.specs.Tables.{AreOwn, IsMap, IsReached, types_of}
+use Rattle.vsd_interfaces.proofs.FirstLaws.{insert-firsts}
+use Rattle.vsd_interfaces.proofs.ReachLaws.{all-distinct}
+use Rattle.vsd_interfaces.proofs.RowLaws.{own-are}
+use Rattle.vsd_interfaces.proofs.ReadLaws.{read_any}
+use Rattle.vsd_interfaces.proofs.UniqueLaws.{interfaces-unique}
 
 -- what stood at a place before an insertion stands there after it
 abbrev StandsAt : List Term → List Term → ℕ → Term → Type 0

@@ -1,57 +1,33 @@
--- Lineages and implementations are unique, and what a row says of the slots that a class lacks.
-use Rattle.std.proofs.Common.{◌≡◌, ℕ, zero, suc, ◌+◌, ◌<◌, ◌≤◌, inl, inr, Bool, true, false, List, [], ◌∷◌, ◌++◌, length, map, take, get_or, Option, Some, None, refl, sym, ap, ◌∙◌, subst, arith}
+-- Implementations are unique, and what a row says of the slots that a class lacks.
+use Rattle.std.proofs.Common.{◌≡◌, ℕ, zero, suc, ◌+◌, ◌<◌, ◌≤◌, inl, inr, true, List, [], ◌∷◌, ◌++◌, length, map, take, get_or, Option, Some, None, refl, sym, ap, ◌∙◌, subst, arith}
 use Rattle.std.specs.List.{slice_get}
 use Rattle.std.specs.Option.{option_map}
 use Rattle.std.proofs.lemmas.Bool.{cases_lt, cases_order}
-use Rattle.std.proofs.lemmas.List.{get_or_append_left, get_or_push, length-map, length-append}
+use Rattle.std.proofs.lemmas.List.{length-map}
 use Rattle.std.proofs.lemmas.List.Sums.{sum_by-cons}
 use Rattle.std.proofs.lemmas.Option.{get_or_from_slice_get, slice_get-get_or, slice_get-map, slice_get_within}
 use Rattle.vsd_terms.specs.declared.term.Term.{Term}
 use Rattle.vsd_ast.specs.declared.declarations.Decl.{Decl}
 use Rattle.vsd_types.specs.TypeList.{TypeList}
-use Rattle.vsd_types.specs.Types.{base_of, is_interface_type, type_at}
+use Rattle.vsd_types.specs.Types.{type_at}
 use Rattle.vsd_slots.specs.Entries.{found_of, nothing}
 use Rattle.vsd_slots.specs.Implementation.{Found, IsImplementation, implementation}
-use Rattle.vsd_slots.specs.Interfaces.{AreInterfaces}
-use Rattle.vsd_slots.specs.Lineage.{IsLineage, Level, all_interfaces}
+use Rattle.vsd_interfaces.specs.Lineage.{all_interfaces}
 use Rattle.vsd_slots.specs.Refusals.{AreAll, IsTotal, IsWhole, IsWithinLimit, Lacks, LacksFirst, Passes, is_concrete, method_count, slots_in}
 use Rattle.vsd_slots.specs.Missing.{IsFirstMissing, Misses}
 use Rattle.vsd_slots.specs.Rows.{IsRow}
-use Rattle.vsd_slots.specs.Tables.{IsMap, types_of}
+use Rattle.vsd_interfaces.specs.Tables.{IsMap, types_of}
+use Rattle.vsd_interfaces.proofs.UniqueLaws.{lineage-unique}
 use Rattle.vsd_slots.specs.declared.entries.ClosedMethod.{ClosedMethod}
 use Rattle.vsd_slots.specs.declared.entries.Entry.{Entry}
 use Rattle.vsd_slots.specs.declared.missing.Slot.{Slot}
 
 module _ (ds : List Decl) where
-  interfaces_by : (t : Term) (xs ys : List Term) (b : Bool) → is_interface_type ds t ≡ b → AreInterfaces ds t xs → AreInterfaces ds t ys → xs ≡ ys
-  interfaces_by t xs ys false is a b =
-      let x = a.class is in
-      let y = b.class is in
-      x.whole (x.height + y.height) (omega arith) ∙ sym (y.whole (x.height + y.height) (omega arith))
-  interfaces_by t xs ys true is a b = a.other is ∙ sym (b.other is)
-
-  pub interfaces-unique : (t : Term) (xs ys : List Term) → AreInterfaces ds t xs → AreInterfaces ds t ys → xs ≡ ys
-  interfaces-unique t xs ys a b = interfaces_by t xs ys (is_interface_type ds t) refl a b
-
-  same_level : (a b : Level) → a.type ≡ b.type → a.interfaces ≡ b.interfaces → a ≡ b
-  same_level a b t is = λ i. record { type = t i; interfaces = is i }
-
-  pub lineage-unique : (o : Option Term) (xs ys : List Level) → IsLineage ds o xs → IsLineage ds o ys → xs ≡ ys
-  lineage-unique None [] [] a b = refl
-  lineage-unique None [] (y ∷ ys) a b = absurd b
-  lineage-unique None (x ∷ xs) ys a b = absurd a
-  lineage-unique (Some t) [] ys a b = absurd a
-  lineage-unique (Some t) (x ∷ xs) [] a b = absurd b
-  lineage-unique (Some t) (x ∷ xs) (y ∷ ys) a b =
-      let first = same_level x y (a.0 ∙ sym b.0) (interfaces-unique t x.interfaces y.interfaces a.1 b.1) in
-      let rest = lineage-unique (base_of ds t) xs ys a.2 b.2 in
-      λ i. first i ∷ rest i
-
   pub implementation-unique : (t i : Term) (m : ℕ) (a b : Option Found) → IsImplementation ds t i m a → IsImplementation ds t i m b → a ≡ b
-  implementation-unique t i m a b x y = x.first ∙ ap (implementation ds i m) (lineage-unique (Some t) x.levels y.levels x.lineage y.lineage) ∙ sym y.first
+  implementation-unique t i m a b x y = x.first ∙ ap (implementation ds i m) (lineage-unique ds (Some t) x.levels y.levels x.lineage y.lineage) ∙ sym y.first
 
   pub all-unique : (t : Term) (xs ys : List Term) → AreAll ds t xs → AreAll ds t ys → xs ≡ ys
-  all-unique t xs ys a b = a.all ∙ ap all_interfaces (lineage-unique (Some t) a.levels b.levels a.lineage b.lineage) ∙ sym b.all
+  all-unique t xs ys a b = a.all ∙ ap all_interfaces (lineage-unique ds (Some t) a.levels b.levels a.lineage b.lineage) ∙ sym b.all
 
 found_none : (types : List Term) (o : Option ClosedMethod) → found_of types o ≡ None → o ≡ None
 found_none types None is = refl

@@ -1,5 +1,5 @@
 -- What implements a method of an interface in a closed class, by numbers.
-use Rattle.std.specs.Prelude.{◌≡◌, ℕ, ◌<◌, Bool, if◌then◌else◌, List, [], ◌∷◌, length, Option, Some, None, slice_index_or}
+use Rattle.std.specs.Prelude.{◌≡◌, ℕ, ◌<◌, Bool, if◌then◌else◌, List, [], ◌∷◌, length, Option, None, slice_index_or}
 use Rattle.std.specs.List.{list_any}
 use Rattle.std.specs.Option.{option_map, option_or}
 use Rattle.vsd_terms.specs.declared.term.Term.{Term}
@@ -7,15 +7,15 @@ use Rattle.vsd_terms.specs.Equality.{term_eq}
 use Rattle.vsd_ast.specs.Hierarchy.{IsHierarchy}
 use Rattle.vsd_types.specs.TypeList.{TypeList}
 use Rattle.vsd_types.specs.Types.{type_at}
-use Rattle.vsd_slots.specs.Givens.{AreGiven}
+use Rattle.vsd_methods.specs.Givens.{AreGiven}
 use Rattle.vsd_slots.specs.Implementation.{Found, implementation, nearest}
-use Rattle.vsd_slots.specs.Interfaces.{AreInterfaces}
-use Rattle.vsd_slots.specs.Lineage.{IsLineage, Level}
-use Rattle.vsd_slots.specs.Methods.{naming, overriding}
-use Rattle.vsd_slots.specs.Tables.{AreRows}
+use Rattle.vsd_interfaces.specs.Interfaces.{AreInterfaces}
+use Rattle.vsd_interfaces.specs.Lineage.{IsLineage, Level}
+use Rattle.vsd_methods.specs.Methods.{naming, overriding}
+use Rattle.vsd_interfaces.specs.Tables.{AreRows}
 use Rattle.vsd_slots.specs.declared.entries.ClosedMethod.{ClosedMethod}
 use Rattle.vsd_slots.specs.declared.entries.Entry.{Entry}
-use Rattle.vsd_slots.specs.declared.overriding.Given.{Given}
+use Rattle.vsd_methods.specs.declared.overriding.Given.{Given}
 
 -- the method of a class, where there is a place
 abbrev pub method_at : ℕ → Option ℕ → Option ClosedMethod

@@ -5,8 +5,8 @@ use Rattle.std.specs.Option.{option_map, option_or}
 use Rattle.vsd_terms.specs.declared.term.Term.{Term}
 use Rattle.vsd_terms.specs.Equality.{term_eq}
 use Rattle.vsd_ast.specs.declared.declarations.Decl.{Decl}
-use Rattle.vsd_slots.specs.Lineage.{IsLineage, Level}
-use Rattle.vsd_slots.specs.Methods.{naming, overriding}
+use Rattle.vsd_interfaces.specs.Lineage.{IsLineage, Level}
+use Rattle.vsd_methods.specs.Methods.{naming, overriding}
 
 -- a closed class, and the place of one of the methods that it declares
 pub record Found : Type 0 where

@@ -4,9 +4,9 @@ use Rattle.std.specs.Prelude.{◌≡◌, ℕ, ◌<◌, Bool, true, false, List, 
 use Rattle.vsd_ast.specs.declared.declarations.Method.{Method}
 use Rattle.vsd_types.specs.TypeList.{TypeList}
 use Rattle.vsd_slots.specs.Entries.{HasNothing}
-use Rattle.vsd_slots.specs.Givens.{answer_of}
-use Rattle.vsd_slots.specs.Methods.{first_given}
-use Rattle.vsd_slots.specs.declared.overriding.Given.{Given}
+use Rattle.vsd_methods.specs.Givens.{answer_of}
+use Rattle.vsd_methods.specs.Methods.{first_given}
+use Rattle.vsd_methods.specs.declared.overriding.Given.{Given}
 
 -- for each method the number of its name among these
 abbrev pub AreNumbered : List Method → List (List ℕ) → List ℕ → Type 0

@@ -5,8 +5,8 @@ use Rattle.vsd_ast.specs.declared.declarations.Decl.{Decl}
 use Rattle.vsd_types.specs.TypeList.{TypeList}
 use Rattle.vsd_types.specs.Types.{declaration_of, type_at}
 use Rattle.vsd_slots.specs.Implementation.{IsImplementation}
-use Rattle.vsd_slots.specs.Lineage.{IsLineage, Level, all_interfaces}
-use Rattle.vsd_slots.specs.Methods.{methods_in}
+use Rattle.vsd_interfaces.specs.Lineage.{IsLineage, Level, all_interfaces}
+use Rattle.vsd_methods.specs.Methods.{methods_in}
 
 -- the most slots that the classes of a list have together
 abbrev pub most_slots : ℕ

@@ -5,7 +5,7 @@ use Rattle.vsd_terms.specs.Text.{text_of}
 use Rattle.vsd_ast.specs.declared.declarations.Decl.{Decl}
 use Rattle.vsd_ast.specs.declared.declarations.Method.{Method}
 use Rattle.vsd_types.specs.Types.{declaration_of}
-use Rattle.vsd_slots.specs.Methods.{methods_in}
+use Rattle.vsd_methods.specs.Methods.{methods_in}
 
 -- how many of the methods before this place have this name
 abbrev pub namesakes : List Method → List ℕ → ℕ → ℕ

@@ -4,9 +4,9 @@ ghost use Rattle.vsd_check.specs.Checked.{decls_of, depths_of};
 ghost use Rattle.vsd_types.specs.Types.{base_of, declaration_of, type_at};
 ghost use Rattle.vsd_slots.specs.Columns.{AreEach, IsColumn, IsMadeAt};
 ghost use Rattle.vsd_slots.specs.Entries.{AreParts, HasNothing, IsHaving, IsStep};
-ghost use Rattle.vsd_slots.specs.Firsts.{AreMethodNames};
+ghost use Rattle.vsd_methods.specs.Firsts.{AreMethodNames};
 ghost use Rattle.vsd_slots.specs.Marks.{AreMarked, AreNumbered};
-ghost use Rattle.vsd_slots.specs.Methods.{methods_in};
+ghost use Rattle.vsd_methods.specs.Methods.{methods_in};
 
 use crate::counting::count_methods;
 use crate::entries::{Entry, Parts, combine, has_itself, is_bare, step};

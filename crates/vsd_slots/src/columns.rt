@@ -4,22 +4,22 @@ ghost use Rattle.vsd_check.specs.Checked.{decls_of, depths_of};
 ghost use Rattle.vsd_types.specs.Types.{base_of, declaration_of, type_at};
 ghost use Rattle.vsd_slots.specs.Columns.{AreEach, IsBlank, IsColumn};
 ghost use Rattle.vsd_slots.specs.Entries.{AreParts, IsBare, IsCombined, IsHaving, IsStep};
-ghost use Rattle.vsd_slots.specs.Firsts.{AreMethodNames};
+ghost use Rattle.vsd_methods.specs.Firsts.{AreMethodNames};
 ghost use Rattle.vsd_slots.specs.Kept.{AreKept};
 ghost use Rattle.vsd_slots.specs.Marks.{AreNumbered};
-ghost use Rattle.vsd_slots.specs.Methods.{methods_in};
+ghost use Rattle.vsd_methods.specs.Methods.{methods_in};
 ghost use Rattle.vsd_slots.specs.Ragged.{Gains};
 
 use crate::changing::change;
 use crate::counting::count_methods;
 use crate::entries::{Entry, NOTHING, Parts, combine, step};
 use crate::kept::Kept;
-use crate::method_names::names_at;
 use crate::numbering::{Numbers, numbers_at};
 use crate::ragged::Ragged;
 use sqlite_items::Items;
 use std::alloc::{AllocError, Global};
 use vsd_check::Checked;
+use vsd_methods::names_at;
 use vsd_terms::Names;
 use vsd_types::Closed;
 

@@ -4,11 +4,11 @@ ghost use Rattle.vsd_check.specs.Checked.{decls_of, depths_of};
 ghost use Rattle.vsd_types.specs.Types.{type_at};
 ghost use Rattle.vsd_slots.specs.Entries.{AreParts};
 ghost use Rattle.vsd_slots.specs.Refusals.{IsOverLimit, IsWithinLimit, is_concrete, method_count, slots_in};
-ghost use Rattle.vsd_slots.specs.Tables.{types_of};
+ghost use Rattle.vsd_interfaces.specs.Tables.{types_of};
 
-use crate::declared::declaration_at;
 use crate::entries::Parts;
 use vsd_check::Checked;
+use vsd_methods::declaration_at;
 use vsd_types::Closed;
 
 /// The most slots that the classes of a list have together.

@@ -1,16 +1,14 @@
 //! What implements a method of an interface in a closed class.
 ghost use Rattle.std.specs.Prelude.{◌≡◌, ◌<◌, None, length, true, IfOk};
 ghost use Rattle.vsd_check.specs.Checked.{decls_of, depths_of};
-ghost use Rattle.vsd_slots.specs.Firsts.{AreMethodNames};
+ghost use Rattle.vsd_methods.specs.Firsts.{AreMethodNames};
 ghost use Rattle.vsd_slots.specs.Entries.{AreParts, IsBare, IsCombined, IsHaving, IsStep, method_at};
 
-use crate::declared::declaration_at;
-use crate::naming::naming;
-use crate::overriding::{Given, first_given, overrides_of};
-use crate::tables::{Table, own, tabulate};
 use sqlite_items::Items;
 use std::alloc::{AllocError, Global};
 use vsd_check::Checked;
+use vsd_interfaces::{Table, own, tabulate};
+use vsd_methods::{Given, declaration_at, first_given, naming, overrides_of};
 use vsd_terms::Names;
 use vsd_types::Closed;
 

@@ -3,25 +3,25 @@ ghost use Rattle.std.specs.Prelude.{◌≡◌, ℕ, ◌<◌, ◌≤◌, [], leng
 ghost use Rattle.vsd_check.specs.Checked.{decls_of, depths_of};
 ghost use Rattle.vsd_types.specs.Types.{base_of, type_at};
 ghost use Rattle.vsd_slots.specs.Entries.{AreParts};
-ghost use Rattle.vsd_slots.specs.Firsts.{AreMethodNames};
+ghost use Rattle.vsd_methods.specs.Firsts.{AreMethodNames};
 ghost use Rattle.vsd_slots.specs.Kept.{AreKept};
 ghost use Rattle.vsd_slots.specs.Refusals.{IsWithinLimit, IsWhole, Passes};
 ghost use Rattle.vsd_slots.specs.Rows.{AreRight, Fills, IsRow};
 ghost use Rattle.vsd_slots.specs.Slots.{AreMade, IsClassDone, IsRefusal};
-ghost use Rattle.vsd_slots.specs.Tables.{IsMap};
+ghost use Rattle.vsd_interfaces.specs.Tables.{IsMap};
 
-use crate::collected::Collected;
 use crate::counting::is_concrete;
 use crate::entries::Parts;
 use crate::error::SlotError;
 use crate::kept::Kept;
-use crate::method_names::method_names;
 use crate::missing::lacking;
 use crate::ragged::Ragged;
 use crate::rows::row;
 use sqlite_items::Items;
 use std::alloc::{AllocError, Global};
 use vsd_check::Checked;
+use vsd_interfaces::Collected;
+use vsd_methods::method_names;
 use vsd_terms::Names;
 use vsd_types::Closed;
 

@@ -3,15 +3,8 @@ ghost use Rattle.std.specs.Prelude.{◌≡◌, ℕ, List, Option};
 ghost use Rattle.vsd_terms.specs.declared.term.Term.{Term};
 ghost use Rattle.vsd_ast.specs.declared.declarations.Decl.{Decl};
 ghost use Rattle.vsd_slots.specs.Implementation.{Found, IsImplementation};
-ghost use Rattle.vsd_slots.specs.Interfaces.{AreInterfaces};
-ghost use Rattle.vsd_slots.specs.Lineage.{IsLineage, Level};
-ghost use Rattle.vsd_slots.specs.Reaching.{BaseDecides, IsDeclaredAbove, ListsReached, NameIsNext, OverrideWins};
-
-/// The interfaces of a class are those that it reaches by naming and requiring, each once.
-pub fn interfaces_law()
-    ensures reached { ListsReached }
-    ensures unique { (ds : List Decl) (t : Term) (xs ys : List Term) → AreInterfaces ds t xs → AreInterfaces ds t ys → xs ≡ ys }
-{}
+ghost use Rattle.vsd_interfaces.specs.Lineage.{IsLineage, Level};
+ghost use Rattle.vsd_slots.specs.Deciding.{BaseDecides, IsDeclaredAbove, NameIsNext, OverrideWins};
 
 /// An override beats a name in the same class, and either beats what the base has; a class that neither overrides nor has
 /// the interface itself leaves it to its base. What is found is declared by the class or one above it. There is one

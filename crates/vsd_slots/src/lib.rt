@@ -1,14 +1,12 @@
-//! The interfaces of closed types, what implements their methods, and which classes leave one without implementation.
+//! What implements the methods of the interfaces of closed classes, and which classes leave one without implementation.
 //!
 //! The rules are those of ECMA-335, II.12.2, in this project's profile: an override of the class itself, then a public
 //! virtual method of the class by name and signature, then what its base has, then such a method of a class above.
 #![tactic(auto)]
 
 mod changing;
-mod collected;
 mod columns;
 mod counting;
-mod declared;
 mod entries;
 mod error;
 mod filling;
@@ -16,22 +14,16 @@ mod kept;
 mod laws;
 mod made;
 mod marking;
-mod method_names;
 mod missing;
-mod naming;
 mod numbering;
-mod overriding;
 mod ragged;
-mod ranks;
 mod rows;
-mod signatures;
 mod slots;
-mod tables;
 mod texts;
 
 pub use counting::count_methods;
 pub use entries::ClosedMethod;
 pub use error::SlotError;
-pub use laws::{implementation_law, interfaces_law};
+pub use laws::implementation_law;
 pub use slots::{Slots, implement};
 pub use texts::{method_text, name_text, type_text};

@@ -2,11 +2,11 @@
 ghost use Rattle.std.specs.Prelude.{◌≡◌, ◌<◌, IfSome, length};
 ghost use Rattle.vsd_slots.specs.Rows.{IsMade};
 
-use crate::collected::Collected;
 use crate::entries::{Entry, Parts};
 use crate::ragged::Ragged;
 use sqlite_items::Items;
 use std::alloc::AllocError;
+use vsd_interfaces::Collected;
 
 /// Leaves in `above` the interfaces of the base of a class and of the classes above it.
 pub(crate) fn load(

@@ -3,16 +3,15 @@ ghost use Rattle.std.specs.Prelude.{◌≡◌, ℕ, ◌<◌, None, Some, length,
 ghost use Rattle.vsd_check.specs.Checked.{decls_of, depths_of};
 ghost use Rattle.vsd_types.specs.Types.{declaration_of, type_at};
 ghost use Rattle.vsd_slots.specs.Entries.{AreParts};
-ghost use Rattle.vsd_slots.specs.Givens.{answer_of};
+ghost use Rattle.vsd_methods.specs.Givens.{answer_of};
 ghost use Rattle.vsd_slots.specs.Marks.{AreGivenMarked, AreMarked, AreNamesMarked, AreNumbered, IsFree, StaysMarked};
-ghost use Rattle.vsd_slots.specs.Methods.{methods_in};
+ghost use Rattle.vsd_methods.specs.Methods.{methods_in};
 
-use crate::declared::declaration_at;
 use crate::entries::Parts;
 use crate::numbering::Numbers;
-use crate::overriding::Given;
 use vsd_ast::Method;
 use vsd_check::Checked;
+use vsd_methods::{Given, declaration_at};
 use vsd_terms::Names;
 use vsd_types::Closed;
 

@@ -3,13 +3,13 @@ ghost use Rattle.std.specs.Prelude.{◌≡◌, ℕ, ◌<◌, ◌≤◌, Some, le
 ghost use Rattle.vsd_ast.specs.declared.declarations.Decl.{Decl};
 ghost use Rattle.vsd_check.specs.Checked.{decls_of};
 ghost use Rattle.vsd_types.specs.Types.{declaration_of, type_at};
-ghost use Rattle.vsd_slots.specs.Firsts.{AreNamesOf};
+ghost use Rattle.vsd_methods.specs.Firsts.{AreNamesOf};
 ghost use Rattle.vsd_slots.specs.Marks.{AreNumbered};
-ghost use Rattle.vsd_slots.specs.Methods.{methods_in};
+ghost use Rattle.vsd_methods.specs.Methods.{methods_in};
 
-use crate::declared::declaration_at;
 use vsd_ast::Method;
 use vsd_check::Checked;
+use vsd_methods::declaration_at;
 use vsd_terms::Names;
 use vsd_types::Closed;
 

@@ -6,21 +6,20 @@ ghost use Rattle.vsd_types.specs.Numbers.{AreNumbers};
 ghost use Rattle.vsd_types.specs.Types.{base_of, type_at};
 ghost use Rattle.vsd_slots.specs.Columns.{IsBlank, IsColumn};
 ghost use Rattle.vsd_slots.specs.Entries.{AreParts, IsBare, IsHaving};
-ghost use Rattle.vsd_slots.specs.Firsts.{AreMethodNames};
+ghost use Rattle.vsd_methods.specs.Firsts.{AreMethodNames};
 ghost use Rattle.vsd_slots.specs.Kept.{AreKept, IsPlace};
 ghost use Rattle.vsd_slots.specs.Ragged.{Gains};
 ghost use Rattle.vsd_slots.specs.Rows.{AreRight, IsRow};
 
-use crate::collected::Collected;
 use crate::columns::{column, column_above};
 use crate::counting::{add_slots, count_methods};
 use crate::entries::{Entry, NOTHING, Parts, is_bare};
 use crate::kept::Kept;
 use crate::made::{load, made_column};
 use crate::ragged::Ragged;
-use crate::tables::own;
 use std::alloc::{AllocError, Global};
 use vsd_check::Checked;
+use vsd_interfaces::{Collected, own};
 use vsd_terms::Names;
 use vsd_types::Closed;
 

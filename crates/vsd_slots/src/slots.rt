@@ -5,8 +5,8 @@ ghost use Rattle.vsd_types.specs.Types.{type_at};
 ghost use Rattle.vsd_slots.specs.Entries.{AreParts, found_of};
 ghost use Rattle.vsd_slots.specs.Refusals.{Passes, method_count};
 ghost use Rattle.vsd_slots.specs.Implementation.{IsImplementation};
-ghost use Rattle.vsd_slots.specs.Interfaces.{AreInterfaces};
-ghost use Rattle.vsd_slots.specs.Tables.{IsMap, types_of};
+ghost use Rattle.vsd_interfaces.specs.Interfaces.{AreInterfaces};
+ghost use Rattle.vsd_interfaces.specs.Tables.{IsMap, types_of};
 ghost use Rattle.vsd_slots.specs.Slots.{AreSlots, AreSlotsOf, IsRefusal, map_of};
 
 use crate::counting::first_over;
@@ -14,10 +14,10 @@ use crate::entries::{ClosedMethod, Parts, gather};
 use crate::error::SlotError;
 use crate::filling::fill_all;
 use crate::ragged::Ragged;
-use crate::tables::own;
 use sqlite_items::Items;
 use std::alloc::Global;
 use vsd_check::Checked;
+use vsd_interfaces::own;
 use vsd_types::Closed;
 
 /// The interfaces of the types of a closed list, and what implements their methods.

@@ -6,10 +6,10 @@ ghost use Rattle.vsd_slots.specs.Refusals.{method_count};
 ghost use Rattle.vsd_slots.specs.Texts.{mark, method_text, name_text, namesakes};
 ghost use Rattle.vsd_terms.specs.Text.{text_of};
 
-use crate::declared::declaration_at;
 use std::alloc::{AllocError, Global};
 use vsd_ast::Method;
 use vsd_check::Checked;
+use vsd_methods::declaration_at;
 use vsd_terms::print;
 use vsd_types::Closed;
 

@@ -10,7 +10,7 @@ use Rattle.vsd_ast.specs.declared.scripts.Script.{Script}
 use Rattle.vsd_ast.specs.declared.scripts.Site.{Site}
 use Rattle.vsd_lanes.specs.Types.{IsRoot}
 use Rattle.vsd_script.specs.Formed.{HasSlot, NamesMethod}
-use Rattle.vsd_slots.specs.Methods.{methods_in}
+use Rattle.vsd_methods.specs.Methods.{methods_in}
 use Rattle.vsd_slots.specs.Refusals.{method_count}
 use Rattle.vsd_types.specs.Types.{IsClosedType, declaration_of_head}
 use Rattle.vsd_stages.specs.Rooted.{NameSlots}

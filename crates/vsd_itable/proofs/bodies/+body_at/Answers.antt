@@ -3,9 +3,9 @@ use Rattle.vsd_ast.specs.Hierarchy.{IsHierarchy}
 use Rattle.vsd_ast.specs.declared.declarations.Decls.{Decls}
 use Rattle.vsd_check.specs.Checked.{depths_of}
 use Rattle.vsd_types.specs.Types.{type_at}
-use Rattle.vsd_slots.specs.Ranks.{rank_of}
+use Rattle.vsd_interfaces.specs.Ranks.{rank_of}
 use Rattle.vsd_slots.proofs.EntryLaws.{base-none, base-some}
-use Rattle.vsd_slots.proofs.RankLaws.{base-falls}
+use Rattle.vsd_interfaces.proofs.RankLaws.{base-falls}
 use Rattle.vsd_itable.specs.Bodies.{declared, top}
 use Rattle.vsd_itable.proofs.BodyLaws.{body-further}
 use Rattle.vsd_itable.proofs.bodies.+body_at.Goals as goal

@@ -1,7 +1,7 @@
 -- The rank of a class's base is lower.
 use Rattle.vsd_check.specs.Checked.{depths_of}
 use Rattle.vsd_types.specs.Types.{type_at}
-use Rattle.vsd_slots.specs.Ranks.{rank_of}
+use Rattle.vsd_interfaces.specs.Ranks.{rank_of}
 use Rattle.vsd_itable.proofs.bodies.+body_at.Given as goal
 
 abbrev pub decreases-body_at : goal.decreases-body_at

@@ -4,10 +4,10 @@ use Rattle.vsd_check.specs.Checked.{depths_of}
 use Rattle.vsd_terms.specs.declared.term.Term.{Term}
 use Rattle.vsd_types.specs.Types.{base_of, type_at}
 use Rattle.vsd_slots.specs.Columns.{IsColumn}
-use Rattle.vsd_slots.specs.Ranks.{rank_of}
+use Rattle.vsd_interfaces.specs.Ranks.{rank_of}
 use Rattle.vsd_slots.specs.declared.entries.Entry.{Entry}
 use Rattle.vsd_slots.proofs.EntryLaws.{base-some}
-use Rattle.vsd_slots.proofs.RankLaws.{base-falls}
+use Rattle.vsd_interfaces.proofs.RankLaws.{base-falls}
 use Rattle.vsd_slots.proofs.columns.+column_over.Goals as goal
 
 pub column_over-requires : goal.column_over-requires

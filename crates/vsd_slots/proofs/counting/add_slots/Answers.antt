@@ -1,7 +1,7 @@
 use Rattle.std.proofs.Common.{◌+◌, ◌∙◌, get_or, ℕ, List, take, ap, arith}
 use Rattle.std.proofs.lemmas.List.{take_more}
 use Rattle.vsd_slots.specs.Refusals.{slots_in}
-use Rattle.vsd_slots.specs.Tables.{types_of}
+use Rattle.vsd_interfaces.specs.Tables.{types_of}
 use Rattle.vsd_slots.proofs.SlotLaws.{slots-push, slots-take}
 use Rattle.vsd_slots.proofs.counting.add_slots.Goals as goal
 

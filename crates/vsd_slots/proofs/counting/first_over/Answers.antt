@@ -1,8 +1,8 @@
-use Rattle.std.proofs.Common.{◌≡◌, ◌+◌, ◌<◌, ℕ, [], length, get_or, ◌∙◌, sym, inl, inr, refl, subst, arith}
+use Rattle.std.proofs.Common.{◌≡◌, ◌+◌, ◌<◌, [], length, get_or, ◌∙◌, sym, inl, inr, refl, subst, arith}
 use Rattle.std.proofs.lemmas.Bool.{cases_lt}
-use Rattle.vsd_slots.specs.Refusals.{IsTotal, IsWithinLimit, slots_in}
-use Rattle.vsd_slots.specs.Tables.{IsMap, types_of}
-use Rattle.vsd_slots.proofs.SearchLaws.{read-at}
+use Rattle.vsd_slots.specs.Refusals.{IsWithinLimit, slots_in}
+use Rattle.vsd_interfaces.specs.Tables.{IsMap, types_of}
+use Rattle.vsd_interfaces.proofs.ReadLaws.{read-at}
 use Rattle.vsd_slots.proofs.SlotLaws.{total-more, total-next}
 use Rattle.vsd_slots.proofs.counting.first_over.Goals as goal
 use Rattle.vsd_slots.proofs.counting.first_over.Goals.{After-as_slice-in-loop-t}

@@ -1,7 +1,7 @@
 -- What the overrides of the types before this one give.
 use Rattle.std.proofs.Common.{◌≡◌, ℕ, ◌<◌, [], length, get_or}
 use Rattle.vsd_types.specs.Types.{type_at}
-use Rattle.vsd_slots.specs.Givens.{AreGiven}
+use Rattle.vsd_methods.specs.Givens.{AreGiven}
 use Rattle.vsd_slots.proofs.entries.gather.Given as goal
 
 abbrev pub invariant-loop-t : goal.invariant-loop-t

@@ -1,9 +1,9 @@
 use Rattle.std.proofs.Common.{◌∙◌, [], List, ℕ, get_or, refl, subst}
 use Rattle.vsd_check.specs.Checked.{depths_of}
 use Rattle.vsd_types.specs.Types.{is_interface_type, type_at}
-use Rattle.vsd_slots.specs.Tables.{AreOwn, types_of}
-use Rattle.vsd_slots.proofs.NumberLaws.{any-turned, any_number}
-use Rattle.vsd_slots.proofs.RowLaws.{own-are}
+use Rattle.vsd_interfaces.specs.Tables.{AreOwn, types_of}
+use Rattle.vsd_interfaces.proofs.NumberLaws.{any-turned, any_number}
+use Rattle.vsd_interfaces.proofs.RowLaws.{own-are}
 use Rattle.vsd_slots.proofs.entries.has_itself.Goals as goal
 
 -- the class has the interface where the number is among its own

@@ -1,8 +1,8 @@
 use Rattle.std.proofs.Common.{◌<◌, arith}
 use Rattle.vsd_check.specs.Checked.{depths_of}
 use Rattle.vsd_types.specs.Types.{type_at}
-use Rattle.vsd_slots.specs.Ranks.{rank_of}
-use Rattle.vsd_slots.proofs.RankLaws.{base-falls}
+use Rattle.vsd_interfaces.specs.Ranks.{rank_of}
+use Rattle.vsd_interfaces.proofs.RankLaws.{base-falls}
 use Rattle.vsd_slots.proofs.filling.+fill.Goals as goal
 
 pub fill-requires : goal.fill-requires

@@ -1,7 +1,7 @@
 use Rattle.std.proofs.Common.{◌≡◌, ◌<◌, ◌∙◌, ℕ, [], List, length, get_or, sym, subst, arith}
 use Rattle.vsd_slots.specs.Rows.{IsRow}
-use Rattle.vsd_slots.specs.Tables.{IsMap}
-use Rattle.vsd_slots.proofs.SearchLaws.{read-at}
+use Rattle.vsd_interfaces.specs.Tables.{IsMap}
+use Rattle.vsd_interfaces.proofs.ReadLaws.{read-at}
 use Rattle.vsd_slots.proofs.filling.fill_class.Goals as goal
 use Rattle.vsd_slots.proofs.filling.fill_class.Goals.{After-as_slice-map}
 

@@ -1,6 +1,6 @@
 use Rattle.std.proofs.Common.{sym, subst}
 use Rattle.vsd_ast.specs.WellFormed.{AreWellFormed}
-use Rattle.vsd_slots.specs.Tables.{types_of}
+use Rattle.vsd_interfaces.specs.Tables.{types_of}
 use Rattle.vsd_slots.proofs.FillLaws.{short-row}
 use Rattle.vsd_slots.proofs.SlotLaws.{all-of, first-row, slot-stands, whole-row}
 use Rattle.vsd_slots.proofs.filling.see_whole.Goals as goal

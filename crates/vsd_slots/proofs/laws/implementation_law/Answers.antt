@@ -1,5 +1,6 @@
-use Rattle.vsd_slots.proofs.ReachLaws.{base-decides, declared-above, name-next, override-wins}
-use Rattle.vsd_slots.proofs.SlotLaws.{implementation-unique, lineage-unique}
+use Rattle.vsd_slots.proofs.DecidingLaws.{base-decides, declared-above, name-next, override-wins}
+use Rattle.vsd_slots.proofs.SlotLaws.{implementation-unique}
+use Rattle.vsd_interfaces.proofs.UniqueLaws.{lineage-unique}
 use Rattle.vsd_slots.proofs.laws.implementation_law.Goals as goal
 
 pub returns-clause-overriding : goal.returns-clause-overriding

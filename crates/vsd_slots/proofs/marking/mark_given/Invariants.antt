@@ -1,8 +1,8 @@
 -- The overrides before this one give nothing for a method that isn't marked.
 use Rattle.std.proofs.Common.{◌≡◌, ℕ, ◌<◌, drop, length, get_or}
-use Rattle.vsd_slots.specs.Givens.{answer_of}
+use Rattle.vsd_methods.specs.Givens.{answer_of}
 use Rattle.vsd_slots.specs.Marks.{IsFree, StaysMarked}
-use Rattle.vsd_slots.specs.Methods.{first_given}
+use Rattle.vsd_methods.specs.Methods.{first_given}
 use Rattle.vsd_slots.proofs.marking.mark_given.Given as goal
 
 abbrev pub invariant-loop-k : goal.invariant-loop-k

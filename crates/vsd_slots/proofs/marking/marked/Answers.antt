@@ -1,9 +1,9 @@
 use Rattle.std.proofs.Common.{◌≡◌, ◌<◌, ◌∙◌, [], List, Option, length, get_or, sym, subst, arith}
 use Rattle.vsd_types.specs.Types.{type_at}
-use Rattle.vsd_slots.specs.Givens.{AreGiven}
-use Rattle.vsd_slots.specs.declared.overriding.Given.{Given}
+use Rattle.vsd_methods.specs.Givens.{AreGiven}
+use Rattle.vsd_methods.specs.declared.overriding.Given.{Given}
 use Rattle.vsd_slots.proofs.MarkLaws.{marked-all}
-use Rattle.vsd_slots.proofs.SearchLaws.{read-at}
+use Rattle.vsd_interfaces.proofs.ReadLaws.{read-at}
 use Rattle.vsd_slots.proofs.marking.marked.Goals as goal
 
 pub returns : goal.returns

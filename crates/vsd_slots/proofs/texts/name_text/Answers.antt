@@ -3,7 +3,7 @@ use Rattle.std.specs.List.{slice_get}
 use Rattle.std.proofs.lemmas.Option.{slice_get-get_or}
 use Rattle.vsd_ast.specs.declared.declarations.Method.{Method}
 use Rattle.vsd_types.specs.Types.{declaration_of, type_at}
-use Rattle.vsd_slots.specs.Methods.{methods_in}
+use Rattle.vsd_methods.specs.Methods.{methods_in}
 use Rattle.vsd_slots.specs.Texts.{mark, name_at, namesakes}
 use Rattle.vsd_slots.proofs.texts.name_text.Goals as goal
 

@@ -1,7 +1,7 @@
 use Rattle.std.proofs.Common.{ℕ, List, get_or, [], refl, subst}
 use Rattle.vsd_types.specs.Types.{is_interface_type, type_at}
-use Rattle.vsd_slots.specs.Tables.{AreOwn}
-use Rattle.vsd_slots.proofs.RowLaws.{own-are}
+use Rattle.vsd_interfaces.specs.Tables.{AreOwn}
+use Rattle.vsd_interfaces.proofs.RowLaws.{own-are}
 use Rattle.vsd_slots.proofs.slots.Slots.interfaces.Goals as goal
 
 pub returns-clause-within : goal.returns-clause-within

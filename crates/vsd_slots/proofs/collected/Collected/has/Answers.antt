@@ -1,9 +1,0 @@
-use Rattle.std.proofs.Common.{sym}
-use Rattle.vsd_slots.proofs.NumberLaws.{stands-any}
-use Rattle.vsd_slots.proofs.collected.Collected.has.Goals as goal
-
-pub returns-in-Some : goal.returns-in-Some
-returns-in-Some c = sym (stands-any _ _ _ c.in-Some.ensures)
-
-pub returns-in-None : goal.returns-in-None
-returns-in-None c = sym c.in-None.ensures

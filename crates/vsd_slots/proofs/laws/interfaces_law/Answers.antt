@@ -1,9 +1,0 @@
-use Rattle.vsd_slots.proofs.ReachLaws.{lists-reached}
-use Rattle.vsd_slots.proofs.SlotLaws.{interfaces-unique}
-use Rattle.vsd_slots.proofs.laws.interfaces_law.Goals as goal
-
-pub returns-clause-reached : goal.returns-clause-reached
-returns-clause-reached c = lists-reached
-
-pub returns-clause-unique : goal.returns-clause-unique
-returns-clause-unique c = interfaces-unique

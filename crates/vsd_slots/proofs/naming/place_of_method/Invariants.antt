@@ -1,9 +1,0 @@
--- None of the methods before this one fits.
-use Rattle.std.proofs.Common.{◌≡◌, ◌&&◌, bytes_eq, drop}
-use Rattle.std.specs.List.{position_from}
-use Rattle.vsd_ast.specs.declared.declarations.Method.{Method}
-use Rattle.vsd_slots.specs.Methods.{same_signature}
-use Rattle.vsd_slots.proofs.naming.place_of_method.Given as goal
-
-abbrev pub invariant-loop-i : goal.invariant-loop-i
-invariant-loop-i l = position_from (λ (p : Method). bytes_eq p.name l.name && same_signature p.signature l.signature) 0 l.methods ≡ position_from (λ (p : Method). bytes_eq p.name l.name && same_signature p.signature l.signature) l.i (drop l.i l.methods)

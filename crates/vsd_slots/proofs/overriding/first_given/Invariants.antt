@@ -1,8 +1,0 @@
--- None of the overrides before this one gives anything.
-use Rattle.std.proofs.Common.{◌≡◌, drop}
-use Rattle.vsd_slots.specs.Givens.{answer_of}
-use Rattle.vsd_slots.specs.Methods.{first_given}
-use Rattle.vsd_slots.proofs.overriding.first_given.Given as goal
-
-abbrev pub invariant-loop-k : goal.invariant-loop-k
-invariant-loop-k l = first_given (λ g. answer_of g l.i l.m) l.given ≡ first_given (λ g. answer_of g l.i l.m) (drop l.k l.given)
