@@ -2,6 +2,7 @@
 ghost use Rattle.std.specs.Prelude.{◌≡◌, ℕ, ◌<◌, ◌≤◌, [], length, slice_index_or, IfErr, IfOk, IfSome, OnOk, Some, true};
 ghost use Rattle.vsd_check.specs.Checked.{decls_of, depths_of};
 ghost use Rattle.vsd_types.specs.Types.{base_of, type_at};
+ghost use Rattle.vsd_slots.specs.Columns.{IsBlank};
 ghost use Rattle.vsd_slots.specs.Entries.{AreParts};
 ghost use Rattle.vsd_methods.specs.Firsts.{AreMethodNames};
 ghost use Rattle.vsd_slots.specs.Kept.{AreKept};
@@ -11,7 +12,7 @@ ghost use Rattle.vsd_slots.specs.Slots.{AreMade, IsClassDone, IsRefusal};
 ghost use Rattle.vsd_interfaces.specs.Tables.{IsMap};
 
 use crate::counting::is_concrete;
-use crate::entries::Parts;
+use crate::entries::{Entry, NOTHING, Parts};
 use crate::error::SlotError;
 use crate::kept::Kept;
 use crate::missing::lacking;
@@ -57,6 +58,7 @@ fn make(
     closed: &Closed,
     parts: &Parts,
     names: &[Names],
+    blank: &[Entry],
     t: u16,
     rows: &mut Items<Ragged>,
     above: &mut Collected,
@@ -66,6 +68,7 @@ fn make(
     requires parts { AreParts closed.now (depths_of checked.now) parts.now.table.reached parts.now.table.maps parts.now.given }
     requires names { AreMethodNames closed.now.decls.list names.now }
     requires right { AreRight closed.now parts.now.table.maps rows.old }
+    requires blank { IsBlank 256 blank.now }
     requires kept { AreKept closed.now kept.old }
     requires class { t < length closed.now.types }
     ensures fills { OnOk result (Fills closed.now parts.now.table.maps t rows.old rows.new) }
@@ -78,6 +81,7 @@ fn make(
         parts,
         names,
         rows.as_slice(),
+        blank,
         t,
         above,
         kept,
@@ -93,6 +97,7 @@ fn fill(
     closed: &Closed,
     parts: &Parts,
     names: &[Names],
+    blank: &[Entry],
     end: u16,
     t: u16,
     rows: &mut Items<Ragged>,
@@ -103,6 +108,7 @@ fn fill(
     requires parts { AreParts closed.now (depths_of checked.now) parts.now.table.reached parts.now.table.maps parts.now.given }
     requires names { AreMethodNames closed.now.decls.list names.now }
     requires right { AreRight closed.now parts.now.table.maps rows.old }
+    requires blank { IsBlank 256 blank.now }
     requires kept { AreKept closed.now kept.old }
     requires class { t < length closed.now.types }
     ensures fills { OnOk result (Fills closed.now parts.now.table.maps t rows.old rows.new) }
@@ -114,11 +120,15 @@ fn fill(
     match base_below(closed, t, end) {
         Some(base) => {
             fill(
-                alloc, checked, closed, parts, names, end, base, rows, above, kept,
+                alloc, checked, closed, parts, names, blank, end, base, rows, above, kept,
             )?;
-            make(alloc, checked, closed, parts, names, t, rows, above, kept)
+            make(
+                alloc, checked, closed, parts, names, blank, t, rows, above, kept,
+            )
         }
-        None => make(alloc, checked, closed, parts, names, t, rows, above, kept),
+        None => make(
+            alloc, checked, closed, parts, names, blank, t, rows, above, kept,
+        ),
     }
 }
 
@@ -157,6 +167,7 @@ fn fill_class(
     closed: &Closed,
     parts: &Parts,
     names: &[Names],
+    blank: &[Entry],
     end: u16,
     t: u16,
     rows: &mut Items<Ragged>,
@@ -167,6 +178,7 @@ fn fill_class(
     requires parts { AreParts closed.now (depths_of checked.now) parts.now.table.reached parts.now.table.maps parts.now.given }
     requires names { AreMethodNames closed.now.decls.list names.now }
     requires right { AreRight closed.now parts.now.table.maps rows.old }
+    requires blank { IsBlank 256 blank.now }
     requires kept { AreKept closed.now kept.old }
     requires class { t < length closed.now.types }
     requires before { Passes closed.now t }
@@ -179,7 +191,7 @@ fn fill_class(
         return Ok(());
     }
     fill(
-        alloc, checked, closed, parts, names, end, t, rows, above, kept,
+        alloc, checked, closed, parts, names, blank, end, t, rows, above, kept,
     )?;
     let row = &rows.as_slice()[t as usize];
     let map = parts.table.maps.as_slice()[t as usize].as_slice();
@@ -207,6 +219,7 @@ pub(crate) fn fill_all(
     let mut rows = no_rows(alloc, closed.count())?;
     let mut above = Collected::new(alloc);
     let mut kept = Kept::new(alloc);
+    let blank = [NOTHING; 256];
     for t in 0..end {
         fill_class(
             alloc,
@@ -214,6 +227,7 @@ pub(crate) fn fill_all(
             closed,
             parts,
             names.as_slice(),
+            &blank,
             end,
             t,
             &mut rows,

@@ -13,7 +13,7 @@ ghost use Rattle.vsd_slots.specs.Rows.{AreRight, IsRow};
 
 use crate::columns::{column, column_above};
 use crate::counting::{add_slots, count_methods};
-use crate::entries::{Entry, NOTHING, Parts, is_bare};
+use crate::entries::{Entry, Parts, is_bare};
 use crate::kept::Kept;
 use crate::made::{load, made_column};
 use crate::ragged::Ragged;
@@ -166,6 +166,7 @@ pub(crate) fn row(
     parts: &Parts,
     names: &[Names],
     rows: &[Ragged],
+    blank: &[Entry],
     t: u16,
     above: &mut Collected,
     kept: &mut Kept,
@@ -174,6 +175,7 @@ pub(crate) fn row(
     requires parts { AreParts closed.now (depths_of checked.now) parts.now.table.reached parts.now.table.maps parts.now.given }
     requires names { AreMethodNames closed.now.decls.list names.now }
     requires right { AreRight closed.now parts.now.table.maps rows.now }
+    requires blank { IsBlank 256 blank.now }
     requires kept { AreKept closed.now kept.old }
     requires class { t < length closed.now.types }
     ensures row { IfOk result (IsRow closed.now t (slice_index_or parts.now.table.maps t []) (length (slice_index_or parts.now.table.maps t []))) }
@@ -183,14 +185,13 @@ pub(crate) fn row(
     let map = parts.table.maps.as_slice()[t as usize].as_slice();
     let base = closed.base(t);
     let bare = is_bare(checked, closed, parts, t);
-    let blank = [NOTHING; 256];
     let _count = closed.count();
     let mut found = room_for(alloc, checked, closed, map)?;
     load(parts, base, above)?;
     for k in 0..map.len() {
         let has = k < own_count;
         add_column(
-            alloc, checked, closed, parts, names, rows, &blank, t, base, map[k], has, bare, above,
+            alloc, checked, closed, parts, names, rows, blank, t, base, map[k], has, bare, above,
             kept, &mut found,
         )?;
     }

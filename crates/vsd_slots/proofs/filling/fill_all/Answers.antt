@@ -1,4 +1,5 @@
 use Rattle.std.proofs.Common.{◌∙◌, arith}
+use Rattle.vsd_slots.proofs.ColumnLaws.{blank-all}
 use Rattle.vsd_slots.proofs.FillLaws.{made-more, made-start, right-none}
 use Rattle.vsd_slots.proofs.SlotLaws.{passes-more}
 use Rattle.vsd_slots.proofs.filling.fill_all.Goals as goal
@@ -15,6 +16,9 @@ loop-t-init c =
       kept = c.new-kept.ensures s;
       passes = λ t within. absurd (omega (arith, within));
     }
+
+pub fill_class-requires-clause-blank : goal.fill_class-requires-clause-blank
+fill_class-requires-clause-blank c = blank-all 256
 
 pub loop-t-preserved : goal.loop-t-preserved
 loop-t-preserved c =

@@ -1,14 +1,10 @@
 use Rattle.std.proofs.Common.{◌≡◌, ◌<◌, ◌∙◌, ℕ, List, [], length, get_or, sym, subst, arith}
 use Rattle.vsd_check.specs.Checked.{depths_of}
 use Rattle.vsd_interfaces.specs.Tables.{AreOwn, IsMap}
-use Rattle.vsd_slots.proofs.ColumnLaws.{blank-all}
 use Rattle.vsd_slots.proofs.FillLaws.{row-push}
 use Rattle.vsd_slots.proofs.OwnLaws.{having-own}
 use Rattle.vsd_interfaces.proofs.ReadLaws.{read-at}
 use Rattle.vsd_slots.proofs.rows.row.Goals as goal
-
-pub add_column-requires-clause-blank : goal.add_column-requires-clause-blank
-add_column-requires-clause-blank c = blank-all 256
 
 pub add_column-requires-clause-having : goal.add_column-requires-clause-having
 add_column-requires-clause-having c =
