@@ -26,7 +26,8 @@ module _ (there : Bool) (old new : List (Bor Term)) (k : Bor Term) (put : new �
   numbered-kept count n w = record {
     class = w.class;
     owner = w.owner;
-    there = subst (λ (l : List (Bor Term)). slice_get l n.number ≡ Some w.owner) (sym put) (insert-kept there old k n.number w.owner w.there);
+    there = subst (λ (l : List (Bor Term)). slice_get l n.number ≡ Some w.owner) (sym put)
+        (insert-kept there old k n.number w.owner w.there);
     same = w.same;
   }
 
@@ -42,7 +43,11 @@ pub has-here : (xs : List Numbered) (n : Numbered) (q : Question) → n.question
 has-here xs n q is = record { numbered = n; there = Contains-push xs n; is = is }
 
 pub has-sorted : (xs ys : List Numbered) (q : Question) → IsPermutation xs ys → HasQuestion xs q → HasQuestion ys q
-has-sorted xs ys q moved w = record { numbered = w.numbered; there = Contains-permutation xs ys w.numbered moved w.there; is = w.is }
+has-sorted xs ys q moved w = record {
+  numbered = w.numbered;
+  there = Contains-permutation xs ys w.numbered moved w.there;
+  is = w.is;
+}
 
 pub contained-at : {A : Type 0} (xs : List A) (x : A) (w : Contains xs x) → slice_get xs w.0 ≡ Some x
 contained-at xs x w = slice_get-get_or xs w.0 x w.1 ∙ ap Some w.2
@@ -57,6 +62,9 @@ owner-of count owners first n w near =
     let part = take (length owners - first) (drop first owners) in
     let o = n.number - first in
     let inside = slice_get_within owners n.number w.owner w.there in
-    let here : slice_get part o ≡ Some w.owner = part-at owners first (length owners - first) n.number w.owner near.0 (omega (arith, inside)) w.there in
-    let found = asked_at part o w.owner (slice_get_within part o w.owner here) (omega (arith, near.0, near.1)) (sym (get_or_from_slice_get part o w.owner w.owner here)) in
+    let here : slice_get part o ≡ Some w.owner =
+    part-at owners first (length owners - first) n.number w.owner near.0 (omega (arith, inside)) w.there in
+    let within = slice_get_within part o w.owner here in
+    let read = sym (get_or_from_slice_get part o w.owner w.owner here) in
+    let found = asked_at part o w.owner within (omega (arith, near.0, near.1)) read in
     record { class = w.class; near = near; there = found ∙ ap Some w.same }

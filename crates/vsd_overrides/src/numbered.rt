@@ -48,7 +48,7 @@ pub(crate) fn by_owners<'a>(
     ensures each { IfOk result (λ all. (q : Question) → Contains asked.now q → HasQuestion all.items q) }
 {
     let mut all = number_all(alloc, asked, owners)?;
-    // Questions for owners of one number over this keep their order, which is that of the classes.
+    // The sort is stable: among those for the same owners the questions keep their order, that of the classes.
     all.sort_by_key(|n| n.number / OWNERS_AT_ONCE)?;
     Ok(all)
 }
@@ -69,7 +69,8 @@ pub(crate) fn end_of_class(asked: &[Numbered<'_>], from: usize) -> usize
     asked.len()
 }
 
-/// Where the questions end whose owners are asked for together with that of the one at `from`.
+/// Where the questions end whose owners are asked for together with that of the one at `from`. Numbers were given in the
+/// order of the questions, so of all these owners that one has the least.
 pub(crate) fn end_of_owners(asked: &[Numbered<'_>], from: usize) -> usize
     requires { from < length asked.now }
     ensures after { from < result }

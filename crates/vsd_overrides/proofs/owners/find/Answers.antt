@@ -35,7 +35,8 @@ find_class-requires-clause-table c =
       asks = λ o n here.
           let t = part-back asked from _ o n here in
           let near = c.requires.near (from + o) a n (omega arith) (slice_get_within asked (from + o) n t.0) start t.0 in
-          owner-of (length ds) owners a.number n (All-at (IsNumbered (length ds) owners) asked (from + o) n t.0 c.requires.numbered) near;
+          let numbered = All-at (IsNumbered (length ds) owners) asked (from + o) n t.0 c.requires.numbered in
+          owner-of (length ds) owners a.number n numbered near;
     }
 
 pub loop-from-preserved : goal.loop-from-preserved

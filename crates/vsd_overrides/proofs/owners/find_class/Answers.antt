@@ -47,13 +47,15 @@ returns-clause-known c =
     let start : slice_get asked 0 ≡ Some a = slice_get-get_or asked 0 c.index-asked-0.result c.requires.some in
     let chain = c.as_slice.result.now in
     let made = c.in_ok-upward.ensures.chain in
-    let up : IsChain ds a.question.class chain = subst (λ (l : List ℕ). IsChain ds a.question.class l) (sym c.as_slice.ensures.value) made in
+    let up : IsChain ds a.question.class chain =
+    subst (λ (l : List ℕ). IsChain ds a.question.class l) (sym c.as_slice.ensures.value) made in
     let table = c.requires.table in
     let tells : TellsOf ds asked first had = λ o n there.
     let asks = table.asks o n there in
     let mark = c.wanted-marks.ensures o n there in
     let has = c.has_interfaces-had.ensures table.owners table.ways (n.number - first) n.question.owner.now mark asks.there in
-    let class : a.question.class ≡ n.question.class = sym (c.requires.same o a n (omega arith) (slice_get_within asked o n there) start there) in
+    let inside = slice_get_within asked o n there in
+    let class : a.question.class ≡ n.question.class = sym (c.requires.same o a n (omega arith) inside start there) in
     let on = has_on ds chain n.question.class n.question.owner.now (subst (λ (m : ℕ). IsChain ds m chain) class up) in
     (λ m. on.0 (has.0 m), λ w. has.1 (on.1 w)) in
     OnOk_map

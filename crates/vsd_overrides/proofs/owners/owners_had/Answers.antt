@@ -25,7 +25,8 @@ returns-clause-each c n x here i o there q class owner = elim (c.in_ok-ask_all.e
       let at = ap (λ (l : List Question). slice_get l asked.place) c.as_slice.ensures.keys ∙ asked.there in
       let has = c.in_ok-all.ensures.each asked.question (at-contained c.as_slice.result.now asked.place asked.question at) in
       let place = has.there.0 in
-      let stands = ap (λ (l : List Numbered). slice_get l place) c.as_slice-3.ensures.value ∙ contained-at c.in_ok-all.all.items has.numbered has.there in
+      let found = contained-at c.in_ok-all.all.items has.numbered has.there in
+      let stands = ap (λ (l : List Numbered). slice_get l place) c.as_slice-3.ensures.value ∙ found in
       c.in_ok-find_all.ensures.each place has.numbered stands q
       (asked.class ∙ sym (ap (λ (b : Question). b.class) has.is)) (asked.owner ∙ sym (ap (λ (b : Question). b.owner.now) has.is))
       )
