@@ -1,20 +1,20 @@
 -- What is known of questions, as one more is asked or answered; and owners on the one chain of a class.
-use Rattle.std.proofs.Common.{◌≡◌, ℕ, zero, suc, ◌+◌, ◌-◌, ◌<◌, ◌≤◌, Bool, true, false, ◌||◌, ◌&&◌, nat_eq, IsTrue, IsSome, ◌↔◌, cond, List, [], ◌∷◌, length, map, take, drop, get_or, Option, Some, None, unwrap_or, if◌then◌else◌, ◌++◌, refl, sym, ap, ◌∙◌, subst, arith}
+use Rattle.std.proofs.Common.{◌≡◌, ℕ, zero, suc, ◌+◌, ◌-◌, ◌<◌, ◌≤◌, Bool, true, false, ◌||◌, ◌&&◌, nat_eq, IsTrue, IsSome, ◌↔◌, cond, List, [], ◌∷◌, length, take, drop, get_or, Option, Some, None, unwrap_or, if◌then◌else◌, ◌++◌, refl, sym, ap, ◌∙◌, subst, arith}
 use Rattle.std.specs.Bool.{Decides}
 use Rattle.std.specs.Cmp.{unsigned_Decides}
 use Rattle.std.specs.List.{slice_get, list_any}
 use Rattle.std.proofs.lemmas.Bool.{false≢true}
 use Rattle.std.proofs.lemmas.Bool.Decides.{Decides-and}
 use Rattle.std.proofs.lemmas.Option.{slice_get_within, slice_get-get_or, get_or_from_slice_get}
-use Rattle.std.proofs.lemmas.List.Elements.{All-drop, All-push, All-take}
+use Rattle.std.proofs.lemmas.List.{length-take}
+use Rattle.std.proofs.lemmas.List.Elements.{All-push}
 use Rattle.vsd_terms.specs.declared.term.Term.{Term}
 use Rattle.vsd_terms.specs.Equality.{term_eq, term_eq-Decides}
-use Rattle.vsd_terms.proofs.PlaceLemmas.{slice_get-map_at}
 use Rattle.vsd_ast.specs.declared.declarations.Decl.{Decl}
 use Rattle.vsd_lift.specs.Chain.{IsChain}
 use Rattle.vsd_lift.proofs.ChainLemmas.{chain-unique}
-use Rattle.vsd_ways.specs.Known.{owners_in, IsMarked}
-use Rattle.vsd_ways.proofs.OwnersLemmas.{asked_at, slice_get-take}
+use Rattle.vsd_ways.specs.Known.{IsMarked}
+use Rattle.vsd_ways.proofs.OwnersLemmas.{slice_get-take}
 use Rattle.vsd_ways.specs.Leads.{HasInterface}
 use Rattle.vsd_overrides.specs.Implements.{HasOwner}
 use Rattle.vsd_overrides.specs.Known.{AreKnown, AreWithin, Knows, same_question}
@@ -104,17 +104,6 @@ asked-place (k ∷ ks) q e = by (same_question q k) refl (asked-place ks q)
         let rest = later (sym (ap (λ (b : Bool). b || list_any (same_question q) ks) s) ∙ e) in
         record { place = suc rest.place; question = rest.question; there = rest.there; class = rest.class; owner = rest.owner }
 
--- an owner is asked for at its place
-pub asked-term : (asked : List Question) (o : ℕ) (q : Question) → o < 64 → slice_get asked o ≡ Some q
-    → slice_get (owners_in (map (λ (a : Question). a.owner) asked)) o ≡ Some q.owner.now
-asked-term asked o q few there =
-    let owners = map (λ (a : Question). a.owner) asked in
-    let inside = slice_get_within asked o q there in
-    let read = sym (get_or_from_slice_get asked o q q there) in
-    let here : slice_get owners o ≡ Some q.owner = slice_get-map_at (λ (a : Question). a.owner) asked o q inside read in
-    let first = slice_get_within owners o q.owner here in
-    asked_at owners o q.owner first few (sym (get_or_from_slice_get owners o q.owner q.owner here))
-
 pub mark-is : (marks : List Bool) (o : ℕ) → o < length marks → IsTrue (get_or marks o false) ↔ IsMarked marks o
 mark-is marks o inside = (λ yes_. slice_get-get_or marks o false inside ∙ ap Some yes_, λ m. get_or_from_slice_get marks o true false m)
 
@@ -131,15 +120,19 @@ part-at {A} xs from n i x past within there =
     let sum : from + (i - from) ≡ i = omega arith in
     slice_get-take n (drop from xs) (i - from) (omega arith) ∙ slice_get-drop from xs (i - from) ∙ ap (slice_get xs) sum ∙ there
 
+-- the other way round
+pub part-back : {A : Type 0} (xs : List A) (from n i : ℕ) (x : A) → slice_get (take n (drop from xs)) i ≡ Some x
+    → (slice_get xs (from + i) ≡ Some x) × (i < n)
+part-back xs from n i x there =
+    let within = slice_get_within (take n (drop from xs)) i x there in
+    let few : i < n = omega (arith, within, length-take n (drop from xs)) in
+    (sym (slice_get-drop from xs i) ∙ sym (slice_get-take n (drop from xs) i few) ∙ there, few)
+
 module _ (count : ℕ) where
   abbrev IsWithin : Question → Type 0
   IsWithin q = q.class < count
 
-  -- the questions between two places are to classes that are there, as all are
-  pub part-within : (asked : List Question) (from n : ℕ) → AreWithin count asked → AreWithin count (take n (drop from asked))
-  part-within asked from n all = All-take IsWithin n (drop from asked) (All-drop IsWithin from asked all)
-
-  -- so are those with one more
+  -- classes that are asked are there, as they are with one more
   pub more-within : (asked : List Question) (k : Question) → AreWithin count asked → k.class < count
       → AreWithin count (if list_any (same_question k) asked then asked else asked ++ k ∷ [])
   more-within asked k all here = by (list_any (same_question k) asked)

@@ -2,4 +2,5 @@
 pub mod KeyLemmas
 pub mod KnownLemmas
 pub mod MeaningLemmas
+pub mod NumberedLemmas
 pub mod SignatureLemmas

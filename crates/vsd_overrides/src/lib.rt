@@ -11,6 +11,7 @@ mod asked;
 mod conditions;
 mod matched;
 mod meaning;
+mod numbered;
 mod owners;
 mod signatures;
 mod table;

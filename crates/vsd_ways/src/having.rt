@@ -137,25 +137,19 @@ fn mark_level(h: &Hierarchy<'_>, chain: &[usize], level: usize, table: &[Ways], 
     }
 }
 
-/// For each of the owners `from..to` whose ways these are whether the lowest class of a chain has it: whether a class of
+/// For each wanted one of the owners whose ways these are whether the lowest class of a chain has it: whether a class of
 /// the chain names an interface that leads to it (ECMA-335, II.12.1). The marks of other owners tell nothing, and ways of
 /// those alone are not compared. Takes no memory.
-pub fn has_interfaces(
-    h: &Hierarchy<'_>,
-    chain: &[usize],
-    table: &[Ways],
-    from: usize,
-    to: usize,
-) -> Marks
+pub fn has_interfaces(h: &Hierarchy<'_>, chain: &[usize], table: &[Ways], wanted: &Marks) -> Marks
     requires settled { IsSettled h.now.decls.now h.now.places.now h.now.depths.now }
     requires upward { IsUpward h.now.decls.now chain.now }
     requires count { length table.now ≡ length h.now.decls.now }
     ensures { (owners : List Term) → AreWays h.now.decls.now owners table.now →
-        (o : ℕ) (owner : Term) → from ≤ o → o < to → slice_get owners o ≡ Some owner →
+        (o : ℕ) (owner : Term) → IsMarked wanted.now o → slice_get owners o ≡ Some owner →
         IsMarked result o ↔ HasInterface h.now.decls.now chain.now owner }
 {
     // An owner that isn't wanted counts as found.
-    let mut found = all_but(from, to);
+    let mut found = all_but(wanted);
     for level in 0..chain.len() {
         mark_level(h, chain, level, table, &mut found);
     }

@@ -1,5 +1,5 @@
 //! For which owners a way is one.
-ghost use Rattle.std.specs.Prelude.{◌≡◌, ℕ, ◌<◌, ◌≤◌, ◌↔◌, ◌⊎◌, false};
+ghost use Rattle.std.specs.Prelude.{◌≡◌, ℕ, ◌<◌, ◌↔◌, ◌⊎◌, false};
 ghost use Rattle.vsd_ways.specs.Known.{owners_at_once, IsMarked};
 
 /// So many owners are asked for at once.
@@ -30,12 +30,12 @@ pub(crate) fn join(there: &mut Marks, marks: &Marks)
 }
 
 /// Marks for all owners but these.
-pub(crate) fn all_but(from: usize, to: usize) -> Marks
-    ensures { (o : ℕ) → from ≤ o → o < to → ¬ IsMarked result o }
+pub(crate) fn all_but(wanted: &Marks) -> Marks
+    ensures { (o : ℕ) → IsMarked wanted.now o → ¬ IsMarked result o }
 {
     let mut marks = [true; OWNERS_AT_ONCE];
-    for o in from..to.min(OWNERS_AT_ONCE) {
-        marks[o] = false;
+    for o in 0..OWNERS_AT_ONCE {
+        marks[o] = !wanted[o];
     }
     marks
 }

@@ -1,12 +1,18 @@
-use Rattle.std.proofs.Common.{◌-◌, length, inl, inr, arith}
+use Rattle.std.proofs.Common.{◌≡◌, ◌+◌, ◌-◌, inl, inr, ap, ◌∙◌, arith}
+use Rattle.std.specs.List.{slice_get}
 use Rattle.std.proofs.lemmas.Bool.{cases_lt}
 use Rattle.std.proofs.lemmas.Option.{slice_get_within}
-use Rattle.vsd_overrides.proofs.KnownLemmas.{part-at, part-within}
+use Rattle.vsd_overrides.proofs.KnownLemmas.{part-at, part-back}
 use Rattle.vsd_overrides.proofs.owners.find_all.Goals as goal
 
-pub find-requires-clause-classes : goal.find-requires-clause-classes
-find-requires-clause-classes c =
-    part-within (length c.args.h.now.decls.now) c.args.asked.now c.loop-from.from _ c.requires.classes
+pub find-requires-clause-near : goal.find-requires-clause-near
+find-requires-clause-near c o a b past below start there =
+    let asked = c.args.asked.now in
+    let from = c.loop-from.from in
+    let f = part-back asked from _ 0 a start in
+    let t = part-back asked from _ o b there in
+    let zero : from ≡ from + 0 = omega arith in
+    c.end_of_owners-to.ensures.near (from + o) a b (omega arith) (omega (arith, t.1)) (ap (slice_get asked) zero ∙ f.0) t.0
 
 pub loop-from-preserved : goal.loop-from-preserved
 loop-from-preserved c =

@@ -11,16 +11,16 @@ use Rattle.vsd_ways.proofs.ClassLemmas.{class_at}
 use Rattle.vsd_ways.proofs.having.has_interfaces.Goals as goal
 
 pub loop-level-init : goal.loop-level-init
-loop-level-init c owners are o owner past below asked =
-    (λ m. absurd (c.all_but-found.ensures o past below m), λ w. absurd (omega (arith, w.1)))
+loop-level-init c owners are o owner wanted asked =
+    (λ m. absurd (c.all_but-found.ensures o wanted m), λ w. absurd (omega (arith, w.1)))
 
 pub loop-level-preserved : goal.loop-level-preserved
-loop-level-preserved c owners are o owner past below asked =
+loop-level-preserved c owners are o owner wanted asked =
     let h = c.args.h.now in
     let ds = h.decls.now in
     let chain = c.args.chain.now in
     let level = c.loop-level.level in
-    let before = c.loop-level.invariant owners are o owner past below asked in
+    let before = c.loop-level.invariant owners are o owner wanted asked in
     let stands = slice_get-get_or chain level 0 c.loop-level-test.true in
     let x = class_at ds h.places.now h.depths.now chain c.requires.settled c.requires.upward level c.loop-level-test.true in
     let now = c.mark_level.ensures owners are (get_or chain level 0) stands x.0 x.1 o owner asked in (
@@ -40,6 +40,6 @@ loop-level-preserved c owners are o owner past below asked =
     )
 
 pub returns : goal.returns
-returns c owners are o owner past below asked =
-    let exact = c.loop-level.invariant owners are o owner past below asked in
+returns c owners are o owner wanted asked =
+    let exact = c.loop-level.invariant owners are o owner wanted asked in
     (λ m. (exact.0 m).0, λ w. exact.1 (w, omega (arith, slice_get_within c.args.chain.now w.level w.number w.stands)))
