@@ -62,8 +62,8 @@ pub(crate) fn made_column<'a>(
     None
 }
 
-/// The row of the base of class `t`, where it is made and the class has nothing of its own. Then it is the row of the class
-/// too.
+/// The row of the base of class `t`, where it is made and the class has neither methods, overrides nor interfaces of its own.
+/// Then it is the row of the class too.
 pub(crate) fn inherited_row<'a>(
     checked: &Checked,
     closed: &Closed,
