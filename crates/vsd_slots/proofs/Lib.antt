@@ -3,6 +3,7 @@ pub mod ColumnLaws
 pub mod DecidingLaws
 pub mod EntryLaws
 pub mod FillLaws
+pub mod InheritedLaws
 pub mod KeptLaws
 pub mod MarkLaws
 pub mod OwnLaws

@@ -1,12 +1,16 @@
-//! The columns of rows that are made, for the rows of classes below.
-ghost use Rattle.std.specs.Prelude.{◌≡◌, ◌<◌, IfSome, length};
-ghost use Rattle.vsd_slots.specs.Rows.{IsMade};
+//! The rows that are made, for the rows of classes below.
+ghost use Rattle.std.specs.Prelude.{◌≡◌, ◌<◌, [], IfSome, length, slice_index_or};
+ghost use Rattle.vsd_check.specs.Checked.{decls_of, depths_of};
+ghost use Rattle.vsd_slots.specs.Entries.{AreParts};
+ghost use Rattle.vsd_slots.specs.Rows.{AreRight, IsFull, IsMade, IsRowOf};
 
-use crate::entries::{Entry, Parts};
+use crate::entries::{Entry, Parts, is_bare};
 use crate::ragged::Ragged;
 use sqlite_items::Items;
 use std::alloc::AllocError;
-use vsd_interfaces::Collected;
+use vsd_check::Checked;
+use vsd_interfaces::{Collected, own};
+use vsd_types::Closed;
 
 /// Leaves in `above` the interfaces of the base of a class and of the classes above it.
 pub(crate) fn load(
@@ -23,6 +27,19 @@ pub(crate) fn load(
     }
 }
 
+// The row of a type, where it is made.
+fn made_row<'a>(maps: &[Items<u16>], rows: &'a [Ragged], t: u16) -> Option<&'a Ragged>
+    requires maps { t < length maps.now }
+    requires rows { length rows.now ≡ length maps.now }
+    ensures { IfSome result (λ row. IsFull maps.now t rows.now × (row.now ≡ slice_index_or rows.now t [])) }
+{
+    let row = &rows[t as usize];
+    if row.count() != maps[t as usize].len() {
+        return None;
+    }
+    Some(row)
+}
+
 /// The entries of a type for an interface, where its row is made and has them. `interfaces` tells where those of the type may
 /// stand.
 pub(crate) fn made_column<'a>(
@@ -36,14 +53,38 @@ pub(crate) fn made_column<'a>(
     requires rows { length rows.now ≡ length maps.now }
     ensures { IfSome result (λ column. IsMade maps.now rows.now t i column.now) }
 {
+    let row = made_row(maps, rows, t)?;
     let map = maps[t as usize].as_slice();
-    let row = &rows[t as usize];
-    if row.count() != map.len() {
-        return None;
-    }
     let place = interfaces.place(i)?;
     if place < map.len() && i == map[place] {
         return Some(row.list(place));
     }
     None
+}
+
+/// The row of the base of class `t`, where it is made and the class has neither methods, overrides nor interfaces of its own.
+/// Then it is the row of the class too.
+pub(crate) fn inherited_row<'a>(
+    checked: &Checked,
+    closed: &Closed,
+    parts: &Parts,
+    rows: &'a [Ragged],
+    t: u16,
+) -> Option<&'a Ragged>
+    requires together { closed.now.decls ≡ decls_of checked.now }
+    requires parts { AreParts closed.now (depths_of checked.now) parts.now.table.reached parts.now.table.maps parts.now.given }
+    requires right { AreRight closed.now parts.now.table.maps rows.now }
+    requires class { t < length closed.now.types }
+    ensures { IfSome result (λ row. IsRowOf closed.now parts.now.table.maps t row.now) }
+{
+    if !own(closed, parts.table.reached.as_slice(), t).is_empty() {
+        return None;
+    }
+    if !is_bare(checked, closed, parts, t) {
+        return None;
+    }
+    let _count = closed.count();
+    let base = closed.base(t)?;
+    let row = made_row(parts.table.maps.as_slice(), rows, base)?;
+    Some(row)
 }

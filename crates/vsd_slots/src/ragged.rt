@@ -112,4 +112,14 @@ impl Ragged {
         self.entries.extend_from_slice(more)?;
         Ok(())
     }
+
+    /// The same lists, in memory of their own.
+    pub(crate) fn copy(&self, alloc: Global) -> Result<Ragged, AllocError>
+        ensures { IfOk result (λ lists. lists ≡ self.now) }
+    {
+        Ok(Ragged {
+            entries: Vec::from_slice(alloc, self.entries.as_slice())?,
+            starts: Vec::from_slice(alloc, self.starts.as_slice())?,
+        })
+    }
 }

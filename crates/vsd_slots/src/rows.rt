@@ -1,5 +1,5 @@
 //! What a class has for the methods of each of its interfaces.
-ghost use Rattle.std.specs.Prelude.{◌≡◌, ◌<◌, ◌≤◌, All, IfOk, IfSome, OnOk, [], Some, length, true, slice_index_or};
+ghost use Rattle.std.specs.Prelude.{◌≡◌, ◌<◌, IfOk, IfSome, OnOk, [], Some, length, true, slice_index_or};
 ghost use Rattle.vsd_check.specs.Checked.{decls_of, depths_of};
 ghost use Rattle.std.specs.Option.{option_to_list};
 ghost use Rattle.vsd_types.specs.Numbers.{AreNumbers};
@@ -12,10 +12,10 @@ ghost use Rattle.vsd_slots.specs.Ragged.{Gains};
 ghost use Rattle.vsd_slots.specs.Rows.{AreRight, IsRow};
 
 use crate::columns::{column, column_above};
-use crate::counting::{add_slots, count_methods};
+use crate::counting::{count_methods, room_for};
 use crate::entries::{Entry, Parts, is_bare};
 use crate::kept::Kept;
-use crate::made::{load, made_column};
+use crate::made::{inherited_row, load, made_column};
 use crate::ragged::Ragged;
 use std::alloc::{AllocError, Global};
 use vsd_check::Checked;
@@ -137,24 +137,6 @@ fn add_column(
     }
 }
 
-// No columns, with room for those of these interfaces.
-fn room_for(
-    alloc: Global,
-    checked: &Checked,
-    closed: &Closed,
-    interfaces: &[u16],
-) -> Result<Ragged, AllocError>
-    requires together { closed.now.decls ≡ decls_of checked.now }
-    requires within { All (λ i. i < length closed.now.types) interfaces.now }
-    ensures { IfOk result (λ columns. columns ≡ []) }
-{
-    let slots = match add_slots(checked, closed, interfaces, 0) {
-        Some(slots) => slots as usize,
-        None => 0,
-    };
-    Ragged::with_capacity(alloc, interfaces.len(), slots)
-}
-
 /// The row of a class, from the rows that are made.
 ///
 /// The interfaces that a class has itself come first, so it has the k-th itself where k is below their count. `above` is used
@@ -181,6 +163,9 @@ pub(crate) fn row(
     ensures row { IfOk result (IsRow closed.now t (slice_index_or parts.now.table.maps t []) (length (slice_index_or parts.now.table.maps t []))) }
     ensures kept { OnOk result (AreKept closed.now kept.new) }
 {
+    if let Some(inherited) = inherited_row(checked, closed, parts, rows, t) {
+        return inherited.copy(alloc);
+    }
     let own_count = own(closed, parts.table.reached.as_slice(), t).len();
     let map = parts.table.maps.as_slice()[t as usize].as_slice();
     let base = closed.base(t);
