@@ -99,8 +99,8 @@ or_none None = refl
 or_none (Some m) = refl
 
 -- with nothing of its own and without the interface, a class has what its base has
-passed_none : (e : Entry) → IsCombined None None false e e
-passed_none e = record { implementation = or_none e.implementation; nearest = refl }
+pub passed-none : (e : Entry) → IsCombined None None false e e
+passed-none e = record { implementation = or_none e.implementation; nearest = refl }
 
 module _ (c : TypeList) (t i : ℕ) where
   abbrev Base : Option Term
@@ -132,4 +132,4 @@ module _ (c : TypeList) (t i : ℕ) where
   }
 
   pub unchanged-steps : (above : List Entry) → i < length c.types → IsBare c t → IsHaving c t i false → AreEach (IsStep c t i) (length above) above above
-  unchanged-steps above listed bare having = passed-steps false (length above) above above listed bare having (record { long = refl; each = λ m within. passed_none (get_or above m nothing) })
+  unchanged-steps above listed bare having = passed-steps false (length above) above above listed bare having (record { long = refl; each = λ m within. passed-none (get_or above m nothing) })

@@ -65,20 +65,21 @@ module _ (c : TypeList) (t b : ℕ) (is : base_of c.decls.list (type_at c.types 
         let same = base_types ns above empty over mine.levels mine.lineage mine.all in
         same_numbers c.types distinct ns above mine.within over.within same
 
-    pub row-inherited : (ns above : List ℕ) (row : List (List Entry)) → IsMap c t ns → IsMap c b above → IsBare c t
-        → IsRow c b above (length above) row → IsRow c t ns (length ns) row
-    row-inherited ns above row mine over bare made =
+    pub row-inherited : (columns : List (List Entry)) (ns above row : List ℕ) → IsMap c t ns → IsMap c b above → IsBare c t
+        → IsRow c columns b above (length above) row → IsRow c columns t ns (length ns) row
+    row-inherited columns ns above row mine over bare made =
         let same = base_map ns above mine over in
-        let here : IsRow c b ns (length ns) row = subst (λ (l : List ℕ). IsRow c b l (length l) row) (sym same) made in
+        let here : IsRow c columns b ns (length ns) row = subst (λ (l : List ℕ). IsRow c columns b l (length l) row) (sym same) made in
         record {
           long = here.long;
           each = λ k within.
               let i = get_or ns k 0 in
-              let column = get_or row k [] in
+              let number = here.each k within in
+              let column = get_or columns (get_or row k 0) [] in
               let listed : i < length c.types = mine.within k 0 within in
               let base : IsColumn c (base_of c.decls.list (type_at c.types t)) i column =
-              subst (λ (o : Option Term). IsColumn c o i column) (sym is) (here.each k within) in
+              subst (λ (o : Option Term). IsColumn c o i column) (sym is) number.holds in
               let tested = having-own c t depths distinct h reached own ns k right owned mine within in
               let having : IsHaving c t i false = subst (IsHaving c t i) (le-ltb k (length own) (omega (arith, none))) tested in
-              stepped-column c t i column column base (unchanged-steps c t i column listed bare having);
+              record { within = number.within; holds = stepped-column c t i column column base (unchanged-steps c t i column listed bare having) };
         }

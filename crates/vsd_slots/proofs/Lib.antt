@@ -6,6 +6,8 @@ pub mod FillLaws
 pub mod InheritedLaws
 pub mod KeptLaws
 pub mod MarkLaws
+pub mod NumberLaws
 pub mod OwnLaws
 pub mod RaggedLaws
+pub mod SharedLaws
 pub mod SlotLaws

@@ -15,7 +15,7 @@ use Rattle.vsd_slots.specs.Implementation.{Found, IsImplementation, implementati
 use Rattle.vsd_interfaces.specs.Lineage.{all_interfaces}
 use Rattle.vsd_slots.specs.Refusals.{AreAll, IsTotal, IsWhole, IsWithinLimit, Lacks, LacksFirst, Passes, is_concrete, method_count, slots_in}
 use Rattle.vsd_slots.specs.Missing.{IsFirstMissing, Misses}
-use Rattle.vsd_slots.specs.Rows.{IsRow}
+use Rattle.vsd_slots.specs.Rows.{IsRow, column_of}
 use Rattle.vsd_interfaces.specs.Tables.{IsMap, types_of}
 use Rattle.vsd_interfaces.proofs.UniqueLaws.{lineage-unique}
 use Rattle.vsd_slots.specs.declared.entries.ClosedMethod.{ClosedMethod}
@@ -59,33 +59,33 @@ module _ (c : TypeList) (t : ℕ) where
   abbrev Ds : List Decl
   Ds = c.decls.list
 
-  module _ (interfaces : List ℕ) (row : List (List Entry)) (filled : IsRow c t interfaces (length interfaces) row) where
+  module _ (columns : List (List Entry)) (interfaces row : List ℕ) (filled : IsRow c columns t interfaces (length interfaces) row) where
     type_stands : (k : ℕ) → k < length interfaces → slice_get (types_of c.types interfaces) k ≡ Some (type_at c.types (get_or interfaces k 0))
     type_stands k within = slice_get-map (type_at c.types) interfaces k ∙ ap (option_map (type_at c.types)) (slice_get-get_or interfaces k 0 within)
 
     -- what the row has for a method implements it
-    pub implements : (k m : ℕ) → k < length interfaces → m < length (get_or row k []) → IsImplementation Ds (type_at c.types t) (type_at c.types (get_or interfaces k 0)) m (found_of c.types (get_or (get_or row k []) m nothing).implementation)
-    implements k m inside within = let entry = (filled.each k inside).each m within in record { levels = entry.levels; lineage = entry.lineage; first = entry.over.implementation }
+    pub implements : (k m : ℕ) → k < length interfaces → m < length (column_of columns row k) → IsImplementation Ds (type_at c.types t) (type_at c.types (get_or interfaces k 0)) m (found_of c.types (get_or (column_of columns row k) m nothing).implementation)
+    implements k m inside within = let entry = (filled.each k inside).holds.each m within in record { levels = entry.levels; lineage = entry.lineage; first = entry.over.implementation }
 
     -- what the class lacks, its row has not
-    lacks_none : (k m : ℕ) → Lacks Ds (type_at c.types t) (types_of c.types interfaces) k m → (k < length interfaces) × Misses (get_or row k []) m
+    lacks_none : (k m : ℕ) → Lacks Ds (type_at c.types t) (types_of c.types interfaces) k m → (k < length interfaces) × Misses (column_of columns row k) m
     lacks_none k m lacks =
         let inside : k < length interfaces = omega (arith, slice_get_within (types_of c.types interfaces) k lacks.interface lacks.stands, length-map interfaces (type_at c.types)) in
         let stands = type_stands k inside in
         let same : lacks.interface ≡ type_at c.types (get_or interfaces k 0) = let both = sym lacks.stands ∙ stands in cc in
-        let column = filled.each k inside in
-        let listed : m < length (get_or row k []) = omega (arith, lacks.listed, column.long, ap (method_count Ds) same) in
+        let column = (filled.each k inside).holds in
+        let listed : m < length (column_of columns row k) = omega (arith, lacks.listed, column.long, ap (method_count Ds) same) in
         let none = subst (λ i. IsImplementation Ds (type_at c.types t) i m None) same lacks.none in
-        let e = get_or (get_or row k []) m nothing in
+        let e = get_or (column_of columns row k) m nothing in
         let empty = found_none c.types e.implementation (implementation-unique Ds (type_at c.types t) (type_at c.types (get_or interfaces k 0)) m _ _ (implements k m inside listed) none) in
-        (inside, record { entry = e; stands = slice_get-get_or (get_or row k []) m nothing listed; none = empty })
+        (inside, record { entry = e; stands = slice_get-get_or (column_of columns row k) m nothing listed; none = empty })
 
-    none_lacks : (k m : ℕ) → k < length interfaces → Misses (get_or row k []) m → Lacks Ds (type_at c.types t) (types_of c.types interfaces) k m
+    none_lacks : (k m : ℕ) → k < length interfaces → Misses (column_of columns row k) m → Lacks Ds (type_at c.types t) (types_of c.types interfaces) k m
     none_lacks k m inside misses =
-        let column = filled.each k inside in
-        let within = slice_get_within (get_or row k []) m misses.entry misses.stands in
+        let column = (filled.each k inside).holds in
+        let within = slice_get_within (column_of columns row k) m misses.entry misses.stands in
         let listed : m < method_count Ds (type_at c.types (get_or interfaces k 0)) = omega (arith, column.long, within) in
-        let empty : (get_or (get_or row k []) m nothing).implementation ≡ None = ap (λ (e : Entry). e.implementation) (get_or_from_slice_get (get_or row k []) m misses.entry nothing misses.stands) ∙ misses.none in
+        let empty : (get_or (column_of columns row k) m nothing).implementation ≡ None = ap (λ (e : Entry). e.implementation) (get_or_from_slice_get (column_of columns row k) m misses.entry nothing misses.stands) ∙ misses.none in
         record {
           interface = type_at c.types (get_or interfaces k 0);
           stands = type_stands k inside;
@@ -93,13 +93,13 @@ module _ (c : TypeList) (t : ℕ) where
           none = subst (λ o. IsImplementation Ds (type_at c.types t) (type_at c.types (get_or interfaces k 0)) m (found_of c.types o)) empty (implements k m inside within);
         }
 
-    pub whole-row : AreAll Ds (type_at c.types t) (types_of c.types interfaces) → (is_concrete Ds (type_at c.types t) ≡ true → IsFirstMissing row None) → IsWhole Ds (type_at c.types t)
+    pub whole-row : AreAll Ds (type_at c.types t) (types_of c.types interfaces) → (is_concrete Ds (type_at c.types t) ≡ true → IsFirstMissing columns row None) → IsWhole Ds (type_at c.types t)
     whole-row all none concrete others are k m lacks =
         let same = all-unique Ds (type_at c.types t) others (types_of c.types interfaces) are all in
         let found = lacks_none k m (subst (λ is. Lacks Ds (type_at c.types t) is k m) same lacks) in
         none concrete k (omega (arith, found.0, filled.long)) m found.1
 
-    pub first-row : (s : Slot) → IsFirstMissing row (Some s) → LacksFirst Ds (type_at c.types t) (types_of c.types interfaces) s.place s.method
+    pub first-row : (s : Slot) → IsFirstMissing columns row (Some s) → LacksFirst Ds (type_at c.types t) (types_of c.types interfaces) s.place s.method
     first-row s is =
         record {
           lacks = none_lacks s.place s.method (omega (arith, is.0, filled.long)) is.1.0;
@@ -107,7 +107,7 @@ module _ (c : TypeList) (t : ℕ) where
               let found = lacks_none p n lacks in
               elim (cases_order p s.place) [
                 | inl same ↦ elim (cases_lt n s.method) [
-                  | inl low ↦ absurd (is.1.1 n low (subst (λ k. Misses (get_or row k []) n) same found.1))
+                  | inl low ↦ absurd (is.1.1 n low (subst (λ k. Misses (column_of columns row k) n) same found.1))
                   | inr high ↦ inr (sym same, high)
                 ]
                 | inr other ↦ elim other [

@@ -5,9 +5,9 @@ use Rattle.vsd_types.specs.Types.{type_at}
 use Rattle.vsd_slots.specs.Entries.{AreParts}
 use Rattle.vsd_slots.specs.Refusals.{IsMissing, IsTooMany, IsWhole}
 use Rattle.vsd_slots.specs.Rows.{AreRight, IsFull, IsRowOf}
-use Rattle.vsd_slots.specs.declared.entries.Entry.{Entry}
 use Rattle.vsd_slots.specs.declared.error.SlotError.{SlotError}
 use Rattle.vsd_slots.specs.declared.error.SlotError.TheVariants.{Missing, TooMany, Memory}
+use Rattle.vsd_slots.specs.declared.rows.Rows.{Rows}
 use Rattle.vsd_slots.specs.declared.slots.Slots.{Slots}
 
 -- a refusal says what is so; want of memory says nothing
@@ -18,21 +18,21 @@ IsRefusal c Memory = Unit {0}
 
 module _ (c : TypeList) (maps : List (List ℕ)) (end : ℕ) where
   -- Each row that is made is right. Where no type has too many slots, those of the types before the n-th are made.
-  pub record AreMade (n : ℕ) (rows : List (List (List Entry))) : Type 0 where
-    pub right : AreRight c maps rows
-    pub full : end ≡ length c.types → (t : ℕ) → t < n → IsFull maps t rows
+  pub record AreMade (n : ℕ) (rows : Rows) : Type 0 where
+    pub right : AreRight c maps rows.columns rows.numbers
+    pub full : end ≡ length c.types → (t : ℕ) → t < n → IsFull maps t rows.numbers
 
   -- the type t lacks nothing, and its row is made where all are to be
-  pub record IsClassDone (t : ℕ) (rows new : List (List (List Entry))) : Type 0 where
-    pub right : AreRight c maps new
-    pub full : end ≡ length c.types → IsFull maps t new
-    pub kept : (u : ℕ) → IsFull maps u rows → IsFull maps u new
+  pub record IsClassDone (t : ℕ) (rows new : Rows) : Type 0 where
+    pub right : AreRight c maps new.columns new.numbers
+    pub full : end ≡ length c.types → IsFull maps t new.numbers
+    pub kept : (u : ℕ) → IsFull maps u rows.numbers → IsFull maps u new.numbers
     pub whole : IsWhole c.decls.list (type_at c.types t)
 
 -- the rows of the types before the n-th
-pub record AreFilled (c : TypeList) (n : ℕ) (maps : List (List ℕ)) (rows : List (List (List Entry))) : Type 0 where
-  pub long : length rows ≡ n
-  pub each : (t : ℕ) → t < n → IsRowOf c maps t (slice_index_or rows t [])
+pub record AreFilled (c : TypeList) (n : ℕ) (maps : List (List ℕ)) (rows : Rows) : Type 0 where
+  pub long : length rows.numbers ≡ n
+  pub each : (t : ℕ) → t < n → IsRowOf c maps rows.columns t (slice_index_or rows.numbers t [])
 
 -- the interfaces of each type, and what implements their methods
 pub record AreSlots (c : TypeList) (depths : List ℕ) (s : Slots) : Type 0 where

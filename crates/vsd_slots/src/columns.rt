@@ -114,6 +114,7 @@ fn column_over(
     names: &[Names],
     wanted: &Names,
     numbers: &Numbers,
+    columns: &Ragged,
     kept: &Kept,
     t: u16,
     i: u16,
@@ -122,7 +123,7 @@ fn column_over(
     requires parts { AreParts closed.now (depths_of checked.now) parts.now.table.reached parts.now.table.maps parts.now.given }
     requires names { AreMethodNames closed.now.decls.list names.now }
     requires numbers { AreNumbered (methods_in (declaration_of closed.now.decls.list (type_at closed.now.types i))) wanted.now numbers.now }
-    requires kept { AreKept closed.now kept.now }
+    requires kept { AreKept closed.now columns.now kept.now }
     requires class { t < length closed.now.types }
     requires interface { i < length closed.now.types }
     ensures { IfOk result (IsColumn closed.now (base_of closed.now.decls.list (type_at closed.now.types t)) i) }
@@ -130,11 +131,11 @@ fn column_over(
     match closed.base(t) {
         None => blank(alloc, count_methods(checked, closed, i)),
         Some(base) => {
-            if let Some(place) = kept.place(base, i) {
-                return Items::from_slice(alloc, kept.columns.list(place));
+            if let Some(number) = kept.number(base, i) {
+                return Items::from_slice(alloc, columns.list(number));
             }
             let mut found = column_over(
-                alloc, checked, closed, parts, names, wanted, numbers, kept, base, i,
+                alloc, checked, closed, parts, names, wanted, numbers, columns, kept, base, i,
             )?;
             change(
                 checked, closed, parts, names, wanted, numbers, base, i, &mut found,
@@ -151,6 +152,7 @@ pub(crate) fn column_above(
     closed: &Closed,
     parts: &Parts,
     names: &[Names],
+    columns: &Ragged,
     kept: &Kept,
     t: u16,
     i: u16,
@@ -158,7 +160,7 @@ pub(crate) fn column_above(
     requires together { closed.now.decls ≡ decls_of checked.now }
     requires parts { AreParts closed.now (depths_of checked.now) parts.now.table.reached parts.now.table.maps parts.now.given }
     requires names { AreMethodNames closed.now.decls.list names.now }
-    requires kept { AreKept closed.now kept.now }
+    requires kept { AreKept closed.now columns.now kept.now }
     requires class { t < length closed.now.types }
     requires interface { i < length closed.now.types }
     ensures { IfOk result (IsColumn closed.now (base_of closed.now.decls.list (type_at closed.now.types t)) i) }
@@ -169,6 +171,6 @@ pub(crate) fn column_above(
     };
     let numbers = numbers_at(checked, closed, wanted, i);
     column_over(
-        alloc, checked, closed, parts, names, wanted, &numbers, kept, t, i,
+        alloc, checked, closed, parts, names, wanted, &numbers, columns, kept, t, i,
     )
 }

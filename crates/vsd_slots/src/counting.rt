@@ -1,5 +1,5 @@
 //! How many methods an interface has, and how many slots classes have.
-ghost use Rattle.std.specs.Prelude.{◌≡◌, ℕ, ◌+◌, ◌<◌, ◌≤◌, All, IfOk, MatchOption, [], length, slice_index_or};
+ghost use Rattle.std.specs.Prelude.{◌≡◌, ℕ, ◌+◌, ◌<◌, ◌≤◌, All, MatchOption, [], length, slice_index_or};
 ghost use Rattle.vsd_check.specs.Checked.{decls_of, depths_of};
 ghost use Rattle.vsd_types.specs.Types.{type_at};
 ghost use Rattle.vsd_slots.specs.Entries.{AreParts};
@@ -7,8 +7,6 @@ ghost use Rattle.vsd_slots.specs.Refusals.{IsOverLimit, IsWithinLimit, is_concre
 ghost use Rattle.vsd_interfaces.specs.Tables.{types_of};
 
 use crate::entries::Parts;
-use crate::ragged::Ragged;
-use std::alloc::{AllocError, Global};
 use vsd_check::Checked;
 use vsd_methods::declaration_at;
 use vsd_types::Closed;
@@ -62,24 +60,6 @@ pub(crate) fn add_slots(
         }
     }
     Some(sum)
-}
-
-/// No columns, with room for those of these interfaces.
-pub(crate) fn room_for(
-    alloc: Global,
-    checked: &Checked,
-    closed: &Closed,
-    interfaces: &[u16],
-) -> Result<Ragged, AllocError>
-    requires together { closed.now.decls ≡ decls_of checked.now }
-    requires within { All (λ i. i < length closed.now.types) interfaces.now }
-    ensures { IfOk result (λ columns. columns ≡ []) }
-{
-    let slots = match add_slots(checked, closed, interfaces, 0) {
-        Some(slots) => slots as usize,
-        None => 0,
-    };
-    Ragged::with_capacity(alloc, interfaces.len(), slots)
 }
 
 /// The first type with which there are too many slots; the count of types where there is none.

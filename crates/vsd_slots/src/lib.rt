@@ -13,11 +13,13 @@ mod filling;
 mod kept;
 mod laws;
 mod made;
+mod making;
 mod marking;
 mod missing;
 mod numbering;
 mod ragged;
 mod rows;
+mod sharing;
 mod slots;
 mod texts;
 

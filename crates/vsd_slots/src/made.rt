@@ -4,7 +4,7 @@ ghost use Rattle.vsd_check.specs.Checked.{decls_of, depths_of};
 ghost use Rattle.vsd_slots.specs.Entries.{AreParts};
 ghost use Rattle.vsd_slots.specs.Rows.{AreRight, IsFull, IsMade, IsRowOf};
 
-use crate::entries::{Entry, Parts, is_bare};
+use crate::entries::{Parts, is_bare};
 use crate::ragged::Ragged;
 use sqlite_items::Items;
 use std::alloc::AllocError;
@@ -28,54 +28,55 @@ pub(crate) fn load(
 }
 
 // The row of a type, where it is made.
-fn made_row<'a>(maps: &[Items<u16>], rows: &'a [Ragged], t: u16) -> Option<&'a Ragged>
+fn made_row<'a>(maps: &[Items<u16>], rows: &'a [Items<usize>], t: u16) -> Option<&'a [usize]>
     requires maps { t < length maps.now }
     requires rows { length rows.now ≡ length maps.now }
     ensures { IfSome result (λ row. IsFull maps.now t rows.now × (row.now ≡ slice_index_or rows.now t [])) }
 {
-    let row = &rows[t as usize];
-    if row.count() != maps[t as usize].len() {
+    let row = rows[t as usize].as_slice();
+    if row.len() != maps[t as usize].len() {
         return None;
     }
     Some(row)
 }
 
-/// The entries of a type for an interface, where its row is made and has them. `interfaces` tells where those of the type may
-/// stand.
-pub(crate) fn made_column<'a>(
+/// The number of the column of a type for an interface, where its row is made and has it. `interfaces` tells where those of
+/// the type may stand.
+pub(crate) fn made_number(
     maps: &[Items<u16>],
-    rows: &'a [Ragged],
+    rows: &[Items<usize>],
     t: u16,
     i: u16,
     interfaces: &Collected,
-) -> Option<&'a [Entry]>
+) -> Option<usize>
     requires maps { t < length maps.now }
     requires rows { length rows.now ≡ length maps.now }
-    ensures { IfSome result (λ column. IsMade maps.now rows.now t i column.now) }
+    ensures { IfSome result (IsMade maps.now rows.now t i) }
 {
     let row = made_row(maps, rows, t)?;
     let map = maps[t as usize].as_slice();
     let place = interfaces.place(i)?;
     if place < map.len() && i == map[place] {
-        return Some(row.list(place));
+        return Some(row[place]);
     }
     None
 }
 
 /// The row of the base of class `t`, where it is made and the class has neither methods, overrides nor interfaces of its own.
-/// Then it is the row of the class too.
+/// Then it is the row of the class too. `columns` are those that rows name.
 pub(crate) fn inherited_row<'a>(
     checked: &Checked,
     closed: &Closed,
     parts: &Parts,
-    rows: &'a [Ragged],
+    rows: &'a [Items<usize>],
+    columns: &Ragged,
     t: u16,
-) -> Option<&'a Ragged>
+) -> Option<&'a [usize]>
     requires together { closed.now.decls ≡ decls_of checked.now }
     requires parts { AreParts closed.now (depths_of checked.now) parts.now.table.reached parts.now.table.maps parts.now.given }
-    requires right { AreRight closed.now parts.now.table.maps rows.now }
+    requires right { AreRight closed.now parts.now.table.maps columns.now rows.now }
     requires class { t < length closed.now.types }
-    ensures { IfSome result (λ row. IsRowOf closed.now parts.now.table.maps t row.now) }
+    ensures { IfSome result (λ row. IsRowOf closed.now parts.now.table.maps columns.now t row.now) }
 {
     if !own(closed, parts.table.reached.as_slice(), t).is_empty() {
         return None;
@@ -83,6 +84,7 @@ pub(crate) fn inherited_row<'a>(
     if !is_bare(checked, closed, parts, t) {
         return None;
     }
+    let _columns = columns;
     let _count = closed.count();
     let base = closed.base(t)?;
     let row = made_row(parts.table.maps.as_slice(), rows, base)?;

@@ -59,20 +59,6 @@ impl Ragged {
         }
     }
 
-    /// No lists, with room for so many with so many entries.
-    pub(crate) fn with_capacity(
-        alloc: Global,
-        lists: usize,
-        entries: usize,
-    ) -> Result<Ragged, AllocError>
-        ensures { IfOk result (λ lists. lists ≡ []) }
-    {
-        Ok(Ragged {
-            entries: Vec::with_capacity(alloc, entries)?,
-            starts: Vec::with_capacity(alloc, lists)?,
-        })
-    }
-
     /// How many lists there are.
     pub(crate) fn count(&self) -> usize
         ensures { result ≡ length self.now }
@@ -113,13 +99,14 @@ impl Ragged {
         Ok(())
     }
 
-    /// The same lists, in memory of their own.
-    pub(crate) fn copy(&self, alloc: Global) -> Result<Ragged, AllocError>
-        ensures { IfOk result (λ lists. lists ≡ self.now) }
+    /// Adds a list, and gives its number.
+    pub(crate) fn add(&mut self, list: &[Entry]) -> Result<usize, AllocError>
+        ensures number { IfOk result (λ n. n ≡ length self.old) }
+        ensures list { OnOk result (self.new ≡ self.old ++ list.now ∷ []) }
     {
-        Ok(Ragged {
-            entries: Vec::from_slice(alloc, self.entries.as_slice())?,
-            starts: Vec::from_slice(alloc, self.starts.as_slice())?,
-        })
+        let number = self.count();
+        self.begin()?;
+        self.extend(list)?;
+        Ok(number)
     }
 }

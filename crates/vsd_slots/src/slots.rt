@@ -13,8 +13,7 @@ use crate::counting::first_over;
 use crate::entries::{ClosedMethod, Parts, gather};
 use crate::error::SlotError;
 use crate::filling::fill_all;
-use crate::ragged::Ragged;
-use sqlite_items::Items;
+use crate::rows::Rows;
 use std::alloc::Global;
 use vsd_check::Checked;
 use vsd_interfaces::own;
@@ -24,8 +23,7 @@ use vsd_types::Closed;
 #[derive(Drop)]
 pub struct Slots {
     pub(crate) parts: Parts,
-    /// For each type and each of its interfaces, what it has for each method.
-    pub(crate) rows: Items<Ragged>,
+    pub(crate) rows: Rows,
 }
 
 impl Slots {
@@ -65,7 +63,8 @@ impl Slots {
         requires method { m < method_count closed.now.decls.list (type_at closed.now.types (slice_index (map_of self.now t) place)) }
         ensures { IsImplementation closed.now.decls.list (type_at closed.now.types t) (type_at closed.now.types (slice_index (map_of self.now t) place)) m (found_of closed.now.types result) }
     {
-        self.rows.as_slice()[t as usize].list(place)[m as usize].implementation
+        let number = self.rows.numbers.as_slice()[t as usize].as_slice()[place];
+        self.rows.columns.list(number)[m as usize].implementation
     }
 }
 

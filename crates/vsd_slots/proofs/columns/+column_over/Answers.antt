@@ -21,15 +21,15 @@ column_over-requires t c =
     let falls : rank_of ds depths (type_at s.types b) < t = omega (arith, c.decreases, lower) in
     (falls, (c.requires.together, (c.requires.parts, (c.requires.names, (c.requires.numbers, (c.requires.kept, (c.in-Some.ensures.within, c.requires.interface)))))))
 
-pub returns-in-Some-place : goal.returns-in-Some-place
-returns-in-Some-place t c =
+pub returns-in-Some-number : goal.returns-in-Some-number
+returns-in-Some-number t c =
     let s = c.args.closed.now in
     let i = c.args.i in
     let b = c.in-Some.base in
-    let place = c.in-Some-place.place in
-    let kept = get_or c.args.kept.now.columns place [] in
+    let number = c.in-Some-number.number in
+    let kept = get_or c.args.columns.now number [] in
     let is = base-some s c.args.t i 0 c.base.result c.base.ensures.number b c.in-Some.is in
-    let column = subst (λ (o : Option Term). IsColumn s o i kept) (sym is) (c.requires.kept.each b i place c.in-Some-place.ensures) in
+    let column = subst (λ (o : Option Term). IsColumn s o i kept) (sym is) (c.requires.kept b i number c.in-Some-number.ensures).holds in
     IfOk-weaker c.from_slice.result (λ (it : List Entry). it ≡ c.list.result.now) (IsColumn s (base_of s.decls.list (type_at s.types c.args.t)) i) (λ it same. subst (IsColumn s (base_of s.decls.list (type_at s.types c.args.t)) i) (sym (same ∙ c.list.ensures)) column) c.from_slice.ensures
 
 pub returns-in_ok-found-in-Some : goal.returns-in_ok-found-in-Some

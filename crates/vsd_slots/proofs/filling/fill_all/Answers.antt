@@ -1,6 +1,7 @@
 use Rattle.std.proofs.Common.{◌∙◌, arith}
 use Rattle.vsd_slots.proofs.ColumnLaws.{blank-all}
 use Rattle.vsd_slots.proofs.FillLaws.{made-more, made-start, right-none}
+use Rattle.vsd_slots.proofs.NumberLaws.{whole-none}
 use Rattle.vsd_slots.proofs.SlotLaws.{passes-more}
 use Rattle.vsd_slots.proofs.filling.fill_all.Goals as goal
 
@@ -12,8 +13,9 @@ loop-t-init c =
     let none = c.in_ok-rows.ensures.none in
     let count = c.count.ensures.count in
     record {
-      made = made-start s maps c.args.end rows (right-none s maps rows (c.in_ok-rows.ensures.count ∙ count) (λ t within. none t (omega (arith, within, count))));
-      kept = c.new-kept.ensures s;
+      made = made-start s maps c.args.end rows (right-none s maps rows.columns rows.numbers (c.in_ok-rows.ensures.count ∙ count) (λ t within. none t (omega (arith, within, count))));
+      kept = c.new-kept.ensures s rows.columns;
+      whole = whole-none rows.columns c.new-whole.result.items c.new-whole.ensures.items;
       passes = λ t within. absurd (omega (arith, within));
     }
 
@@ -28,6 +30,7 @@ loop-t-preserved c =
     record {
       made = made-more s c.args.parts.now.table.maps c.args.end t c.loop-t.rows c.fill_class.new.rows c.loop-t.invariant.made done;
       kept = c.in_ok-fill_class.ensures.kept;
+      whole = c.in_ok-fill_class.ensures.whole;
       passes = passes-more s t c.loop-t.invariant.passes (c.requires.within t c.loop-t-test.true) done.whole;
     }
 

@@ -27,8 +27,9 @@ returns c =
     let mine = c.requires.parts.rows.each t c.requires.class in
     let over = c.requires.parts.rows.each b within in
     let full : IsFull maps b rows = subst (λ (l : List (List ℕ)). IsFull l b rows) c.as_slice-2.ensures c.in_ok-row.ensures.0 in
-    let made : IsRowOf s maps b row =
-    subst (IsRow s b above (length above)) (sym c.in_ok-row.ensures.1) (c.requires.right.each b within full) in
+    let columns = c.args.columns.now in
+    let made : IsRowOf s maps columns b row =
+    subst (IsRow s columns b above (length above)) (sym c.in_ok-row.ensures.1) (c.requires.right.each b within full) in
     let distinct = c.count-count.ensures.distinct in
     row-inherited s t b is (depths_of c.args.checked.now) distinct c.requires.parts.hierarchy (get_or reached t []) own mine.0
-    owned empty (get_or maps t []) above row mine.1 over.1 bare made
+    owned empty columns (get_or maps t []) above row mine.1 over.1 bare made

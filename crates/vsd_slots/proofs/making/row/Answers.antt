@@ -2,12 +2,13 @@ use Rattle.std.proofs.Common.{◌≡◌, ◌<◌, ◌∙◌, ℕ, List, [], leng
 use Rattle.vsd_check.specs.Checked.{depths_of}
 use Rattle.vsd_interfaces.specs.Tables.{AreOwn, IsMap}
 use Rattle.vsd_slots.proofs.FillLaws.{row-push}
+use Rattle.vsd_slots.proofs.NumberLaws.{keeps-after, right-kept, row-kept}
 use Rattle.vsd_slots.proofs.OwnLaws.{having-own}
 use Rattle.vsd_interfaces.proofs.ReadLaws.{read-at}
-use Rattle.vsd_slots.proofs.rows.row.Goals as goal
+use Rattle.vsd_slots.proofs.making.row.Goals as goal
 
-pub add_column-requires-clause-having : goal.add_column-requires-clause-having
-add_column-requires-clause-having c =
+pub number-requires-clause-having : goal.number-requires-clause-having
+number-requires-clause-having c =
     let s = c.args.closed.now in
     let t = c.args.t in
     let reached = c.args.parts.now.table.reached in
@@ -25,10 +26,20 @@ add_column-requires-clause-having c =
     having-own s t (depths_of c.args.checked.now) distinct c.requires.parts.hierarchy (get_or reached t []) own map c.loop-k.k rows.0
     owned mapped c.loop-k-test.true
 
+pub number-requires-clause-right : goal.number-requires-clause-right
+number-requires-clause-right c = right-kept c.args.columns.now c.loop-k.columns c.loop-k.invariant.keeps c.args.closed.now c.args.parts.now.table.maps c.args.rows.now c.requires.right
+
 pub loop-k-preserved : goal.loop-k-preserved
 loop-k-preserved c =
-    let gains = c.in_ok-add_column.ensures.column in
+    let s = c.args.closed.now in
+    let t = c.args.t in
+    let map = c.as_slice-map.result.now in
+    let k = c.loop-k.k in
+    let old = c.loop-k.columns in
+    let new = c.number.new.columns in
+    let kept = row-kept old new c.in_ok-number.ensures.keeps s t map k c.loop-k.found.items c.loop-k.invariant.row in
     record {
-      row = row-push c.args.closed.now c.args.t c.as_slice-map.result.now c.loop-k.k c.loop-k.found c.add_column.new.found gains.list c.loop-k.invariant.row gains.is gains.holds;
-      kept = c.in_ok-add_column.ensures.kept;
+      row = row-push s new t map k c.loop-k.found.items c.push.new.self.items c.in_ok-number.field-0 kept c.in_ok-push.ensures.items c.in_ok-number.ensures.number;
+      keeps = keeps-after c.args.columns.now old new c.loop-k.invariant.keeps c.in_ok-number.ensures.keeps;
+      kept = c.in_ok-number.ensures.kept;
     }
