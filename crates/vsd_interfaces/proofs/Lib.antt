@@ -1,4 +1,5 @@
 -- Lemmas that several proofs of this crate share.
+pub mod DepthLaws
 pub mod FirstLaws
 pub mod NumberLaws
 pub mod PlaceLaws

@@ -12,6 +12,8 @@ use Rattle.vsd_terms.specs.declared.term.Term.{Term}
 use Rattle.vsd_terms.specs.Equality.{term_eq}
 use Rattle.vsd_ast.specs.declared.declarations.Decl.{Decl}
 use Rattle.vsd_ast.specs.Hierarchy.{IsHierarchy}
+use Rattle.vsd_layers.specs.Layers.{IsNextAt, or_end}
+use Rattle.vsd_layers.proofs.LayerLemmas.{none_between}
 use Rattle.vsd_types.specs.Numbers.{AreNumbers, IsDistinct}
 use Rattle.vsd_types.specs.TypeList.{TypeList}
 use Rattle.vsd_types.specs.Types.{base_of, is_interface_type, named_of, type_at}
@@ -88,16 +90,14 @@ module _ (c : TypeList) (depths : List ℕ) where
 
   -- rows of some ranks
   module _ (ranks : List ℕ) where
-    pub rows-skip : (rank t : ℕ) (reached maps : List (List ℕ)) → (get_or ranks t 0 ≡ rank → ⊥) → AreRowsTo c depths ranks rank t reached maps → AreRowsTo c depths ranks rank (t + 1) reached maps
-    rows-skip rank t reached maps other before = record {
+    -- as far as the next type of the rank
+    pub rows-skip : length ranks ≡ length c.types → (rank from : ℕ) (next : Option ℕ) (reached maps : List (List ℕ)) → IsNextAt ranks rank from next → AreRowsTo c depths ranks rank from reached maps → AreRowsTo c depths ranks rank (or_end next) reached maps
+    rows-skip long rank from next reached maps are before = record {
       reached_count = before.reached_count;
       maps_count = before.maps_count;
       each = λ j within which. elim which [
         | inl less ↦ before.each j within (inl less)
-        | inr same ↦ elim (cases_lt j t) [
-          | inl low ↦ before.each j within (inr (same.0, low))
-          | inr high ↦ absurd (other (let last : j ≡ t = omega (arith, high, same.1) in ap (λ k. get_or ranks k 0) (sym last) ∙ same.0))
-        ]
+        | inr same ↦ before.each j within (inr (same.0, none_between ranks rank from next are j (omega (arith, within, long)) same.0 same.1))
       ];
     }
 

@@ -1,15 +1,18 @@
 //! The rows of all types: the interfaces that each reaches by what it names, and those of a class and of all above it.
-ghost use Rattle.std.specs.Prelude.{◌≡◌, ◌+◌, ◌<◌, [], length, slice_index_or, IfOk, OnOk};
+ghost use Rattle.std.specs.Prelude.{◌≡◌, ◌+◌, ◌<◌, ◌≤◌, [], length, slice_index_or, IfOk, OnOk};
 ghost use Rattle.vsd_ast.specs.Hierarchy.{IsHierarchy};
 ghost use Rattle.vsd_check.specs.Checked.{decls_of, depths_of};
+ghost use Rattle.vsd_layers.specs.Layers.{AreLayers};
+ghost use Rattle.vsd_types.specs.Numbers.{IsDistinct};
 ghost use Rattle.vsd_interfaces.specs.Ranks.{AreRanks};
 ghost use Rattle.vsd_interfaces.specs.Tables.{AreOwn, AreRows, AreRowsTo, IsFilled, IsMapFrom, IsReachedFrom};
 
 use crate::collected::Collected;
-use crate::ranks::{greatest_rank, ranks};
+use crate::ranks::ranks;
 use sqlite_items::Items;
 use std::alloc::{AllocError, Global};
 use vsd_check::Checked;
+use vsd_layers::{Layers, by_depth};
 use vsd_types::Closed;
 
 // The interfaces that a type reaches, from the rows of those that it names. They are left in `set` too.
@@ -121,42 +124,48 @@ fn fill_rank(
     alloc: Global,
     checked: &Checked,
     closed: &Closed,
-    ranks: &[u32],
-    rank: u32,
+    ranks: &[u16],
+    layers: &Layers,
+    rank: usize,
     table: &mut Table,
     set: &mut Collected,
 ) -> Result<(), AllocError>
     requires hierarchy { IsHierarchy closed.now.decls.list (depths_of checked.now) }
     requires ranks { AreRanks closed.now.decls.list (depths_of checked.now) closed.now.types ranks.now }
+    requires distinct { IsDistinct closed.now.types }
+    requires few { length closed.now.types ≤ 1024 }
+    requires layers { AreLayers ranks.now layers.now.first.items layers.now.next.items }
     requires before { AreRowsTo closed.now (depths_of checked.now) ranks.now rank 0 table.old.reached table.old.maps }
     ensures { OnOk result (AreRowsTo closed.now (depths_of checked.now) ranks.now (rank + 1) 0 table.new.reached table.new.maps) }
 {
-    for t in 0..closed.count() {
-        if ranks[t as usize] != rank {
-            continue;
-        }
+    let mut next = layers.first(rank);
+    while let Some(t) = next {
         fill(alloc, closed, t, table, set)?;
+        next = layers.after(t);
     }
     Ok(())
 }
 
-// Fills the rows of the types of every rank.
+// Fills the rows of the types of every rank. The types of each are listed first, so that each type is looked at once.
 fn fill_all(
     alloc: Global,
     checked: &Checked,
     closed: &Closed,
-    ranks: &[u32],
+    ranks: &[u16],
     table: &mut Table,
     set: &mut Collected,
 ) -> Result<(), AllocError>
     requires hierarchy { IsHierarchy closed.now.decls.list (depths_of checked.now) }
     requires ranks { AreRanks closed.now.decls.list (depths_of checked.now) closed.now.types ranks.now }
+    requires distinct { IsDistinct closed.now.types }
+    requires few { length closed.now.types ≤ 1024 }
     requires reached_count { length table.old.reached ≡ length closed.now.types }
     requires maps_count { length table.old.maps ≡ length closed.now.types }
     ensures { OnOk result (AreRows closed.now (depths_of checked.now) table.new.reached table.new.maps) }
 {
-    for rank in 0..u64::from(greatest_rank(ranks)) + 1 {
-        fill_rank(alloc, checked, closed, ranks, rank as u32, table, set)?;
+    let layers = by_depth(alloc, ranks)?;
+    for rank in 0..layers.count() {
+        fill_rank(alloc, checked, closed, ranks, &layers, rank, table, set)?;
     }
     Ok(())
 }

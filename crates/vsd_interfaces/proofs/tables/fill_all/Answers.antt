@@ -5,4 +5,6 @@ use Rattle.vsd_interfaces.proofs.tables.fill_all.Goals as goal
 
 pub returns : goal.returns
 returns c =
-    rows-end c.args.closed.now (depths_of c.args.checked.now) c.args.ranks.now c.requires.ranks.count c.loop-rank.rank c.loop-rank.table.reached c.loop-rank.table.maps (λ t within. let most = c.greatest_rank.ensures t within in omega (arith, most)) c.loop-rank.invariant
+    let ranks = c.args.ranks.now in
+    let all = c.count-rank-end.ensures ranks c.in_ok-layers.ensures in
+    rows-end c.args.closed.now (depths_of c.args.checked.now) ranks c.requires.ranks.count c.loop-rank.rank c.loop-rank.table.reached c.loop-rank.table.maps (λ t within. omega (arith, all t within)) c.loop-rank.invariant
