@@ -12,6 +12,6 @@ mod overriding;
 mod signatures;
 
 pub use declared::{Declared, declaration_at};
-pub use names::{method_names, names_at};
+pub use names::method_names;
 pub use offering::naming;
 pub use overriding::{Given, first_given, overrides_of};

@@ -52,7 +52,7 @@ pub fn method_names(alloc: Global, checked: &Checked) -> Result<Items<Names>, Al
 }
 
 /// The names of the methods of a type's declaration, which a built-in does not have.
-pub fn names_at<'a>(closed: &Closed, names: &'a [Names], t: u16) -> Option<&'a Names>
+pub(crate) fn names_at<'a>(closed: &Closed, names: &'a [Names], t: u16) -> Option<&'a Names>
     requires names { AreMethodNames closed.now.decls.list names.now }
     requires within { t < length closed.now.types }
     ensures { MatchOption result (declaration_of closed.now.decls.list (type_at closed.now.types t) ≡ None)

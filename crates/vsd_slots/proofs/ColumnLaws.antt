@@ -6,7 +6,7 @@ use Rattle.std.proofs.lemmas.List.{get_or-replicate, get_or-take, get_or_append_
 use Rattle.vsd_terms.specs.declared.term.Term.{Term}
 use Rattle.vsd_types.specs.TypeList.{TypeList}
 use Rattle.vsd_types.specs.Types.{base_of, type_at}
-use Rattle.vsd_slots.specs.Columns.{AreEach, IsBlank, IsColumn, IsMadeAt}
+use Rattle.vsd_slots.specs.Columns.{AreEach, HasNone, IsBlank, IsColumn, IsMadeAt}
 use Rattle.vsd_slots.specs.Entries.{HasNothing, IsBare, IsCombined, IsHaving, IsStep, nothing}
 use Rattle.vsd_slots.specs.Ragged.{Gains, with_more}
 use Rattle.vsd_slots.specs.Refusals.{method_count}
@@ -125,11 +125,11 @@ module _ (c : TypeList) (t i : ℕ) where
   passed-step m has above e none having combined = step-combined c t i m None None has above e (sym none.overriding) (sym none.naming) having combined
 
   -- a class with nothing of its own makes its entries from those above alone
-  pub passed-steps : (has : Bool) (count : ℕ) (above column : List Entry) → i < length c.types → IsBare c t → IsHaving c t i has → AreEach (λ m. IsCombined None None has) count above column → AreEach (IsStep c t i) count above column
-  passed-steps has count above column listed bare having each = record {
+  pub passed-steps : (has : Bool) (above column : List Entry) → IsColumn c Base i above → HasNone c t i → IsHaving c t i has → AreEach (λ m. IsCombined None None has) (length above) above column → AreEach (IsStep c t i) (length above) above column
+  passed-steps has above column over none having each = record {
     long = each.long;
-    each = λ m within. passed-step m has (get_or above m nothing) (get_or column m nothing) (bare i m listed) having (each.each m within);
+    each = λ m within. passed-step m has (get_or above m nothing) (get_or column m nothing) (none m (omega (arith, within, over.long))) having (each.each m within);
   }
 
-  pub unchanged-steps : (above : List Entry) → i < length c.types → IsBare c t → IsHaving c t i false → AreEach (IsStep c t i) (length above) above above
-  unchanged-steps above listed bare having = passed-steps false (length above) above above listed bare having (record { long = refl; each = λ m within. passed-none (get_or above m nothing) })
+  pub unchanged-steps : (above : List Entry) → i < length c.types → IsColumn c Base i above → IsBare c t → IsHaving c t i false → AreEach (IsStep c t i) (length above) above above
+  unchanged-steps above listed over bare having = passed-steps false above above over (λ m within. bare i m listed) having (record { long = refl; each = λ m within. passed-none (get_or above m nothing) })

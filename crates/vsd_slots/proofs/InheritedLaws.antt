@@ -81,5 +81,5 @@ module _ (c : TypeList) (t b : ℕ) (is : base_of c.decls.list (type_at c.types 
               subst (λ (o : Option Term). IsColumn c o i column) (sym is) number.holds in
               let tested = having-own c t depths distinct h reached own ns k right owned mine within in
               let having : IsHaving c t i false = subst (IsHaving c t i) (le-ltb k (length own) (omega (arith, none))) tested in
-              record { within = number.within; holds = stepped-column c t i column column base (unchanged-steps c t i column listed bare having) };
+              record { within = number.within; holds = stepped-column c t i column column base (unchanged-steps c t i column listed base bare having) };
         }

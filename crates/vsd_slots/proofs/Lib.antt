@@ -6,6 +6,7 @@ pub mod FillLaws
 pub mod InheritedLaws
 pub mod KeptLaws
 pub mod MarkLaws
+pub mod NamedLaws
 pub mod NumberLaws
 pub mod OwnLaws
 pub mod RaggedLaws

@@ -3,7 +3,7 @@ use Rattle.std.specs.Prelude.{◌≡◌, ℕ, ◌<◌, List, length, Option, sli
 use Rattle.vsd_terms.specs.declared.term.Term.{Term}
 use Rattle.vsd_types.specs.TypeList.{TypeList}
 use Rattle.vsd_types.specs.Types.{type_at}
-use Rattle.vsd_slots.specs.Entries.{IsEntry, nothing}
+use Rattle.vsd_slots.specs.Entries.{HasNothing, IsEntry, nothing}
 use Rattle.vsd_slots.specs.Refusals.{method_count}
 use Rattle.vsd_slots.specs.declared.entries.Entry.{Entry}
 
@@ -27,3 +27,7 @@ pub record IsMadeAt (made : ℕ → Entry → Entry → Type 0) (m : ℕ) (old n
 pub record IsColumn (c : TypeList) (o : Option Term) (i : ℕ) (column : List Entry) : Type 0 where
   pub long : length column ≡ method_count c.decls.list (type_at c.types i)
   pub each : (m : ℕ) → m < length column → IsEntry c o i m (slice_index_or column m nothing)
+
+-- the class t has nothing of its own for the methods of the interface i
+abbrev pub HasNone : TypeList → ℕ → ℕ → Type 0
+HasNone c t i = (m : ℕ) → m < method_count c.decls.list (type_at c.types i) → HasNothing c t i m

@@ -6,6 +6,7 @@ pub mod Implementation
 pub mod Kept
 pub mod Marks
 pub mod Missing
+pub mod Named
 pub mod Ragged
 pub mod Refusals
 pub mod Rows

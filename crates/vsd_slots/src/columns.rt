@@ -2,11 +2,10 @@
 ghost use Rattle.std.specs.Prelude.{◌≡◌, ◌<◌, ◌≤◌, None, Some, length, IfOk, OnOk, false, true};
 ghost use Rattle.vsd_check.specs.Checked.{decls_of, depths_of};
 ghost use Rattle.vsd_types.specs.Types.{base_of, declaration_of, type_at};
-ghost use Rattle.vsd_slots.specs.Columns.{AreEach, IsBlank, IsColumn};
-ghost use Rattle.vsd_slots.specs.Entries.{AreParts, IsBare, IsCombined, IsHaving, IsStep};
-ghost use Rattle.vsd_methods.specs.Firsts.{AreMethodNames};
+ghost use Rattle.vsd_slots.specs.Columns.{AreEach, HasNone, IsBlank, IsColumn};
+ghost use Rattle.vsd_slots.specs.Entries.{AreParts, IsCombined, IsHaving, IsStep};
 ghost use Rattle.vsd_slots.specs.Kept.{AreKept};
-ghost use Rattle.vsd_slots.specs.Marks.{AreNumbered};
+ghost use Rattle.vsd_slots.specs.Named.{AreBuckets, AreNamed};
 ghost use Rattle.vsd_methods.specs.Methods.{methods_in};
 ghost use Rattle.vsd_slots.specs.Ragged.{Gains};
 
@@ -14,13 +13,11 @@ use crate::changing::change;
 use crate::counting::count_methods;
 use crate::entries::{Entry, NOTHING, Parts, combine, step};
 use crate::kept::Kept;
-use crate::numbering::{Numbers, numbers_at};
+use crate::named::{Named, buckets_at};
 use crate::ragged::Ragged;
 use sqlite_items::Items;
 use std::alloc::{AllocError, Global};
 use vsd_check::Checked;
-use vsd_methods::names_at;
-use vsd_terms::Names;
 use vsd_types::Closed;
 
 // So many entries over no class.
@@ -50,7 +47,7 @@ fn stepped(
     checked: &Checked,
     closed: &Closed,
     parts: &Parts,
-    names: &[Names],
+    named: &Named,
     t: u16,
     i: u16,
     has: bool,
@@ -59,7 +56,7 @@ fn stepped(
 ) -> Result<(), AllocError>
     requires together { closed.now.decls ≡ decls_of checked.now }
     requires parts { AreParts closed.now (depths_of checked.now) parts.now.table.reached parts.now.table.maps parts.now.given }
-    requires names { AreMethodNames closed.now.decls.list names.now }
+    requires named { AreNamed closed.now.decls.list named.now }
     requires class { t < length closed.now.types }
     requires interface { i < length closed.now.types }
     requires having { IsHaving closed.now t i has }
@@ -68,7 +65,7 @@ fn stepped(
 {
     found.begin()?;
     for m in 0..above.len() {
-        let entry = step(checked, closed, parts, names, t, i, m as u16, has, above[m]);
+        let entry = step(checked, closed, parts, named, t, i, m as u16, has, above[m]);
         found.push(entry)?;
     }
     Ok(())
@@ -80,7 +77,7 @@ pub(crate) fn column(
     checked: &Checked,
     closed: &Closed,
     parts: &Parts,
-    names: &[Names],
+    named: &Named,
     t: u16,
     i: u16,
     has: bool,
@@ -90,11 +87,11 @@ pub(crate) fn column(
 ) -> Result<(), AllocError>
     requires together { closed.now.decls ≡ decls_of checked.now }
     requires parts { AreParts closed.now (depths_of checked.now) parts.now.table.reached parts.now.table.maps parts.now.given }
-    requires names { AreMethodNames closed.now.decls.list names.now }
+    requires named { AreNamed closed.now.decls.list named.now }
     requires class { t < length closed.now.types }
     requires interface { i < length closed.now.types }
     requires having { IsHaving closed.now t i has }
-    requires bare { bare ≡ true → IsBare closed.now t }
+    requires bare { bare ≡ true → HasNone closed.now t i }
     requires above { IsColumn closed.now (base_of closed.now.decls.list (type_at closed.now.types t)) i above.now }
     ensures { OnOk result (Gains (IsColumn closed.now (Some (type_at closed.now.types t)) i) found.old found.new) }
 {
@@ -102,18 +99,17 @@ pub(crate) fn column(
         return passed_on(has, above, found);
     }
     let _few = count_methods(checked, closed, i);
-    stepped(checked, closed, parts, names, t, i, has, above, found)
+    stepped(checked, closed, parts, named, t, i, has, above, found)
 }
 
-// What the base of class `t` has for the methods of interface `i`, which have these numbers among the wanted names.
+// What the base of class `t` has for the methods of interface `i`, whose names fall into these buckets.
 fn column_over(
     alloc: Global,
     checked: &Checked,
     closed: &Closed,
     parts: &Parts,
-    names: &[Names],
-    wanted: &Names,
-    numbers: &Numbers,
+    named: &Named,
+    buckets: &[u8],
     columns: &Ragged,
     kept: &Kept,
     t: u16,
@@ -121,8 +117,8 @@ fn column_over(
 ) -> Result<Items<Entry>, AllocError>
     requires together { closed.now.decls ≡ decls_of checked.now }
     requires parts { AreParts closed.now (depths_of checked.now) parts.now.table.reached parts.now.table.maps parts.now.given }
-    requires names { AreMethodNames closed.now.decls.list names.now }
-    requires numbers { AreNumbered (methods_in (declaration_of closed.now.decls.list (type_at closed.now.types i))) wanted.now numbers.now }
+    requires named { AreNamed closed.now.decls.list named.now }
+    requires buckets { AreBuckets (methods_in (declaration_of closed.now.decls.list (type_at closed.now.types i))) buckets.now }
     requires kept { AreKept closed.now columns.now kept.now }
     requires class { t < length closed.now.types }
     requires interface { i < length closed.now.types }
@@ -135,11 +131,9 @@ fn column_over(
                 return Items::from_slice(alloc, columns.list(number));
             }
             let mut found = column_over(
-                alloc, checked, closed, parts, names, wanted, numbers, columns, kept, base, i,
+                alloc, checked, closed, parts, named, buckets, columns, kept, base, i,
             )?;
-            change(
-                checked, closed, parts, names, wanted, numbers, base, i, &mut found,
-            );
+            change(checked, closed, parts, named, buckets, base, i, &mut found);
             Ok(found)
         }
     }
@@ -151,7 +145,7 @@ pub(crate) fn column_above(
     checked: &Checked,
     closed: &Closed,
     parts: &Parts,
-    names: &[Names],
+    named: &Named,
     columns: &Ragged,
     kept: &Kept,
     t: u16,
@@ -159,18 +153,14 @@ pub(crate) fn column_above(
 ) -> Result<Items<Entry>, AllocError>
     requires together { closed.now.decls ≡ decls_of checked.now }
     requires parts { AreParts closed.now (depths_of checked.now) parts.now.table.reached parts.now.table.maps parts.now.given }
-    requires names { AreMethodNames closed.now.decls.list names.now }
+    requires named { AreNamed closed.now.decls.list named.now }
     requires kept { AreKept closed.now columns.now kept.now }
     requires class { t < length closed.now.types }
     requires interface { i < length closed.now.types }
     ensures { IfOk result (IsColumn closed.now (base_of closed.now.decls.list (type_at closed.now.types t)) i) }
 {
-    // A built-in has no methods.
-    let Some(wanted) = names_at(closed, names, i) else {
-        return Ok(Items::new(alloc));
-    };
-    let numbers = numbers_at(checked, closed, wanted, i);
+    let buckets = buckets_at(closed, named, i);
     column_over(
-        alloc, checked, closed, parts, names, wanted, &numbers, columns, kept, t, i,
+        alloc, checked, closed, parts, named, buckets, columns, kept, t, i,
     )
 }

@@ -1,15 +1,15 @@
 //! What implements a method of an interface in a closed class.
 ghost use Rattle.std.specs.Prelude.{◌≡◌, ◌<◌, None, length, true, IfOk};
 ghost use Rattle.vsd_check.specs.Checked.{decls_of, depths_of};
-ghost use Rattle.vsd_methods.specs.Firsts.{AreMethodNames};
+ghost use Rattle.vsd_slots.specs.Named.{AreNamed};
 ghost use Rattle.vsd_slots.specs.Entries.{AreParts, IsBare, IsCombined, IsHaving, IsStep, method_at};
 
+use crate::named::Named;
 use sqlite_items::Items;
 use std::alloc::{AllocError, Global};
 use vsd_check::Checked;
 use vsd_interfaces::{Table, own, tabulate};
 use vsd_methods::{Given, declaration_at, first_given, naming, overrides_of};
-use vsd_terms::Names;
 use vsd_types::Closed;
 
 /// A method of a closed class: the number of the class, and the method's place among those of its declaration.
@@ -118,7 +118,7 @@ pub(crate) fn step(
     checked: &Checked,
     closed: &Closed,
     parts: &Parts,
-    names: &[Names],
+    named: &Named,
     t: u16,
     i: u16,
     m: u16,
@@ -127,13 +127,13 @@ pub(crate) fn step(
 ) -> Entry
     requires together { closed.now.decls ≡ decls_of checked.now }
     requires parts { AreParts closed.now (depths_of checked.now) parts.now.table.reached parts.now.table.maps parts.now.given }
-    requires names { AreMethodNames closed.now.decls.list names.now }
+    requires named { AreNamed closed.now.decls.list named.now }
     requires class { t < length closed.now.types }
     requires interface { i < length closed.now.types }
     requires having { IsHaving closed.now t i has }
     ensures { IsStep closed.now t i m above result }
 {
     let overriding = first_given(parts.given.as_slice()[t as usize].as_slice(), i, m);
-    let named = naming(checked, closed, names, t, i, m);
+    let named = naming(checked, closed, named.names.as_slice(), t, i, m);
     combine(method_at(t, overriding), method_at(t, named), has, above)
 }

@@ -4,7 +4,7 @@ ghost use Rattle.vsd_check.specs.Checked.{decls_of, depths_of};
 ghost use Rattle.vsd_types.specs.Types.{base_of, type_at};
 ghost use Rattle.vsd_slots.specs.Columns.{IsBlank};
 ghost use Rattle.vsd_slots.specs.Entries.{AreParts};
-ghost use Rattle.vsd_methods.specs.Firsts.{AreMethodNames};
+ghost use Rattle.vsd_slots.specs.Named.{AreNamed};
 ghost use Rattle.vsd_slots.specs.Kept.{AreKept};
 ghost use Rattle.vsd_slots.specs.Refusals.{IsWithinLimit, Passes};
 ghost use Rattle.vsd_slots.specs.Missing.{AreWhole};
@@ -17,12 +17,11 @@ use crate::error::SlotError;
 use crate::kept::Kept;
 use crate::making::row;
 use crate::missing::see_whole;
+use crate::named::{Named, name_methods};
 use crate::rows::{Rows, no_rows};
 use std::alloc::{AllocError, Global};
 use vsd_check::Checked;
 use vsd_interfaces::Collected;
-use vsd_methods::method_names;
-use vsd_terms::Names;
 use vsd_types::Closed;
 
 // The base of a type, where its number is below this one.
@@ -44,7 +43,7 @@ fn make(
     checked: &Checked,
     closed: &Closed,
     parts: &Parts,
-    names: &[Names],
+    named: &Named,
     blank: &[Entry],
     t: u16,
     rows: &mut Rows,
@@ -53,7 +52,7 @@ fn make(
 ) -> Result<(), AllocError>
     requires together { closed.now.decls ≡ decls_of checked.now }
     requires parts { AreParts closed.now (depths_of checked.now) parts.now.table.reached parts.now.table.maps parts.now.given }
-    requires names { AreMethodNames closed.now.decls.list names.now }
+    requires named { AreNamed closed.now.decls.list named.now }
     requires right { AreRight closed.now parts.now.table.maps rows.old.columns rows.old.numbers }
     requires blank { IsBlank 256 blank.now }
     requires kept { AreKept closed.now rows.old.columns kept.old }
@@ -67,7 +66,7 @@ fn make(
         checked,
         closed,
         parts,
-        names,
+        named,
         rows.numbers.as_slice(),
         blank,
         t,
@@ -85,7 +84,7 @@ fn fill(
     checked: &Checked,
     closed: &Closed,
     parts: &Parts,
-    names: &[Names],
+    named: &Named,
     blank: &[Entry],
     end: u16,
     t: u16,
@@ -95,7 +94,7 @@ fn fill(
 ) -> Result<(), AllocError>
     requires together { closed.now.decls ≡ decls_of checked.now }
     requires parts { AreParts closed.now (depths_of checked.now) parts.now.table.reached parts.now.table.maps parts.now.given }
-    requires names { AreMethodNames closed.now.decls.list names.now }
+    requires named { AreNamed closed.now.decls.list named.now }
     requires right { AreRight closed.now parts.now.table.maps rows.old.columns rows.old.numbers }
     requires blank { IsBlank 256 blank.now }
     requires kept { AreKept closed.now rows.old.columns kept.old }
@@ -110,14 +109,14 @@ fn fill(
     match base_below(closed, t, end) {
         Some(base) => {
             fill(
-                alloc, checked, closed, parts, names, blank, end, base, rows, above, kept,
+                alloc, checked, closed, parts, named, blank, end, base, rows, above, kept,
             )?;
             make(
-                alloc, checked, closed, parts, names, blank, t, rows, above, kept,
+                alloc, checked, closed, parts, named, blank, t, rows, above, kept,
             )
         }
         None => make(
-            alloc, checked, closed, parts, names, blank, t, rows, above, kept,
+            alloc, checked, closed, parts, named, blank, t, rows, above, kept,
         ),
     }
 }
@@ -128,7 +127,7 @@ fn fill_class(
     checked: &Checked,
     closed: &Closed,
     parts: &Parts,
-    names: &[Names],
+    named: &Named,
     blank: &[Entry],
     end: u16,
     t: u16,
@@ -139,7 +138,7 @@ fn fill_class(
 ) -> Result<(), SlotError>
     requires together { closed.now.decls ≡ decls_of checked.now }
     requires parts { AreParts closed.now (depths_of checked.now) parts.now.table.reached parts.now.table.maps parts.now.given }
-    requires names { AreMethodNames closed.now.decls.list names.now }
+    requires named { AreNamed closed.now.decls.list named.now }
     requires right { AreRight closed.now parts.now.table.maps rows.old.columns rows.old.numbers }
     requires blank { IsBlank 256 blank.now }
     requires kept { AreKept closed.now rows.old.columns kept.old }
@@ -156,7 +155,7 @@ fn fill_class(
         return Ok(());
     }
     fill(
-        alloc, checked, closed, parts, names, blank, end, t, rows, above, kept,
+        alloc, checked, closed, parts, named, blank, end, t, rows, above, kept,
     )?;
     let row = rows.numbers.as_slice()[t as usize].as_slice();
     let map = parts.table.maps.as_slice()[t as usize].as_slice();
@@ -180,7 +179,7 @@ pub(crate) fn fill_all(
     ensures passes { IfOk result (λ rows. Passes closed.now end) }
     ensures refused { IfErr result (IsRefusal closed.now) }
 {
-    let names = method_names(alloc, checked)?;
+    let named = name_methods(alloc, checked)?;
     let mut rows = no_rows(alloc, closed.count())?;
     let mut above = Collected::new(alloc);
     let mut kept = Kept::new(alloc);
@@ -188,18 +187,8 @@ pub(crate) fn fill_all(
     let blank = [NOTHING; 256];
     for t in 0..end {
         fill_class(
-            alloc,
-            checked,
-            closed,
-            parts,
-            names.as_slice(),
-            &blank,
-            end,
-            t,
-            &mut rows,
-            &mut above,
-            &mut kept,
-            &mut whole,
+            alloc, checked, closed, parts, &named, &blank, end, t, &mut rows, &mut above,
+            &mut kept, &mut whole,
         )?;
     }
     Ok(rows)

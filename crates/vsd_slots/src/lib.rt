@@ -16,7 +16,7 @@ mod made;
 mod making;
 mod marking;
 mod missing;
-mod numbering;
+mod named;
 mod ragged;
 mod rows;
 mod sharing;

@@ -4,9 +4,9 @@ ghost use Rattle.vsd_check.specs.Checked.{decls_of, depths_of};
 ghost use Rattle.std.specs.Option.{option_to_list};
 ghost use Rattle.vsd_types.specs.Numbers.{AreNumbers};
 ghost use Rattle.vsd_types.specs.Types.{base_of, type_at};
-ghost use Rattle.vsd_slots.specs.Columns.{IsBlank};
-ghost use Rattle.vsd_slots.specs.Entries.{AreParts, IsBare, IsHaving};
-ghost use Rattle.vsd_methods.specs.Firsts.{AreMethodNames};
+ghost use Rattle.vsd_slots.specs.Columns.{HasNone, IsBlank};
+ghost use Rattle.vsd_slots.specs.Entries.{AreParts, IsHaving};
+ghost use Rattle.vsd_slots.specs.Named.{AreNamed};
 ghost use Rattle.vsd_slots.specs.Kept.{AreKept};
 ghost use Rattle.vsd_slots.specs.Rows.{AreRight, IsColumnOf, IsRowOf, Keeps};
 
@@ -15,13 +15,14 @@ use crate::counting::count_methods;
 use crate::entries::{Entry, Parts, is_bare};
 use crate::kept::Kept;
 use crate::made::{inherited_row, load, made_number};
+use crate::marking::{has_none, names_marked};
+use crate::named::Named;
 use crate::ragged::Ragged;
 use crate::sharing::{add_column, number_over};
 use sqlite_items::Items;
 use std::alloc::{AllocError, Global};
 use vsd_check::Checked;
 use vsd_interfaces::{Collected, own};
-use vsd_terms::Names;
 use vsd_types::Closed;
 
 // The number of the column of the base of class `t` for interface `i`, which is kept from now on.
@@ -30,7 +31,7 @@ fn kept_number(
     checked: &Checked,
     closed: &Closed,
     parts: &Parts,
-    names: &[Names],
+    named: &Named,
     t: u16,
     base: u16,
     i: u16,
@@ -39,7 +40,7 @@ fn kept_number(
 ) -> Result<usize, AllocError>
     requires together { closed.now.decls ≡ decls_of checked.now }
     requires parts { AreParts closed.now (depths_of checked.now) parts.now.table.reached parts.now.table.maps parts.now.given }
-    requires names { AreMethodNames closed.now.decls.list names.now }
+    requires named { AreNamed closed.now.decls.list named.now }
     requires kept { AreKept closed.now columns.old kept.old }
     requires class { t < length closed.now.types }
     requires within { base < length closed.now.types }
@@ -52,7 +53,7 @@ fn kept_number(
     if let Some(number) = kept.number(base, i) {
         return Ok(number);
     }
-    let above = column_above(alloc, checked, closed, parts, names, columns, kept, t, i)?;
+    let above = column_above(alloc, checked, closed, parts, named, columns, kept, t, i)?;
     let number = columns.add(above.as_slice())?;
     kept.keep(base, i, number, closed.count())?;
     Ok(number)
@@ -64,7 +65,7 @@ fn number_above(
     checked: &Checked,
     closed: &Closed,
     parts: &Parts,
-    names: &[Names],
+    named: &Named,
     rows: &[Items<usize>],
     t: u16,
     base: u16,
@@ -75,7 +76,7 @@ fn number_above(
 ) -> Result<usize, AllocError>
     requires together { closed.now.decls ≡ decls_of checked.now }
     requires parts { AreParts closed.now (depths_of checked.now) parts.now.table.reached parts.now.table.maps parts.now.given }
-    requires names { AreMethodNames closed.now.decls.list names.now }
+    requires named { AreNamed closed.now.decls.list named.now }
     requires right { AreRight closed.now parts.now.table.maps columns.old rows.now }
     requires kept { AreKept closed.now columns.old kept.old }
     requires class { t < length closed.now.types }
@@ -90,7 +91,7 @@ fn number_above(
         return Ok(number);
     }
     kept_number(
-        alloc, checked, closed, parts, names, t, base, i, columns, kept,
+        alloc, checked, closed, parts, named, t, base, i, columns, kept,
     )
 }
 
@@ -100,7 +101,7 @@ fn number(
     checked: &Checked,
     closed: &Closed,
     parts: &Parts,
-    names: &[Names],
+    named: &Named,
     rows: &[Items<usize>],
     blank: &[Entry],
     t: u16,
@@ -114,13 +115,13 @@ fn number(
 ) -> Result<usize, AllocError>
     requires together { closed.now.decls ≡ decls_of checked.now }
     requires parts { AreParts closed.now (depths_of checked.now) parts.now.table.reached parts.now.table.maps parts.now.given }
-    requires names { AreMethodNames closed.now.decls.list names.now }
+    requires named { AreNamed closed.now.decls.list named.now }
     requires right { AreRight closed.now parts.now.table.maps columns.old rows.now }
     requires blank { IsBlank 256 blank.now }
     requires kept { AreKept closed.now columns.old kept.old }
     requires class { t < length closed.now.types }
     requires having { IsHaving closed.now t i has }
-    requires bare { bare ≡ true → IsBare closed.now t }
+    requires bare { bare ≡ true → HasNone closed.now t i }
     requires within { IfSome base (λ b. b < length closed.now.types) }
     requires base { AreNumbers closed.now.types (option_to_list base) (option_to_list (base_of closed.now.decls.list (type_at closed.now.types t))) }
     requires interface { i < length closed.now.types }
@@ -131,16 +132,16 @@ fn number(
     match base {
         Some(base) => {
             let above = number_above(
-                alloc, checked, closed, parts, names, rows, t, base, i, interfaces, columns, kept,
+                alloc, checked, closed, parts, named, rows, t, base, i, interfaces, columns, kept,
             )?;
             number_over(
-                alloc, checked, closed, parts, names, t, i, has, bare, above, columns,
+                alloc, checked, closed, parts, named, t, i, has, bare, above, columns,
             )
         }
         None => {
             let above = &blank[..count_methods(checked, closed, i) as usize];
             add_column(
-                checked, closed, parts, names, t, i, has, bare, above, columns,
+                checked, closed, parts, named, t, i, has, bare, above, columns,
             )
         }
     }
@@ -155,7 +156,7 @@ pub(crate) fn row(
     checked: &Checked,
     closed: &Closed,
     parts: &Parts,
-    names: &[Names],
+    named: &Named,
     rows: &[Items<usize>],
     blank: &[Entry],
     t: u16,
@@ -165,7 +166,7 @@ pub(crate) fn row(
 ) -> Result<Items<usize>, AllocError>
     requires together { closed.now.decls ≡ decls_of checked.now }
     requires parts { AreParts closed.now (depths_of checked.now) parts.now.table.reached parts.now.table.maps parts.now.given }
-    requires names { AreMethodNames closed.now.decls.list names.now }
+    requires named { AreNamed closed.now.decls.list named.now }
     requires right { AreRight closed.now parts.now.table.maps columns.old rows.now }
     requires blank { IsBlank 256 blank.now }
     requires kept { AreKept closed.now columns.old kept.old }
@@ -181,13 +182,15 @@ pub(crate) fn row(
     let map = parts.table.maps.as_slice()[t as usize].as_slice();
     let base = closed.base(t);
     let bare = is_bare(checked, closed, parts, t);
+    let marks = names_marked(closed, named, t);
     let _count = closed.count();
     let mut found = Vec::with_capacity(alloc, map.len())?;
     load(parts, base, above)?;
     for k in 0..map.len() {
         let has = k < own_count;
+        let none = bare || has_none(checked, closed, parts, named, &marks, t, map[k]);
         found.push(number(
-            alloc, checked, closed, parts, names, rows, blank, t, base, map[k], has, bare, above,
+            alloc, checked, closed, parts, named, rows, blank, t, base, map[k], has, none, above,
             columns, kept,
         )?)?;
     }

@@ -2,18 +2,18 @@
 ghost use Rattle.std.specs.Prelude.{◌≡◌, ◌<◌, None, Some, length, IfOk, OnOk, true};
 ghost use Rattle.vsd_check.specs.Checked.{decls_of, depths_of};
 ghost use Rattle.vsd_types.specs.Types.{base_of, type_at};
-ghost use Rattle.vsd_slots.specs.Columns.{AreEach, IsColumn};
-ghost use Rattle.vsd_slots.specs.Entries.{AreParts, IsBare, IsCombined, IsHaving};
-ghost use Rattle.vsd_methods.specs.Firsts.{AreMethodNames};
+ghost use Rattle.vsd_slots.specs.Columns.{AreEach, HasNone, IsColumn};
+ghost use Rattle.vsd_slots.specs.Entries.{AreParts, IsCombined, IsHaving};
+ghost use Rattle.vsd_slots.specs.Named.{AreNamed};
 ghost use Rattle.vsd_slots.specs.Rows.{IsColumnOf, IsNumber, Keeps};
 
 use crate::columns::column;
 use crate::entries::{Entry, Parts};
+use crate::named::Named;
 use crate::ragged::Ragged;
 use sqlite_items::Items;
 use std::alloc::{AllocError, Global};
 use vsd_check::Checked;
-use vsd_terms::Names;
 use vsd_types::Closed;
 
 // Whether an entry stays where a class has the interface itself, and else nothing for it: what is there by name implements
@@ -40,7 +40,7 @@ fn all_stay(column: &[Entry]) -> bool
 }
 
 // Whether a class has the column of its base. `has` tells whether it has the interface itself, and `bare` that it has nothing
-// of its own.
+// of its own for it.
 fn is_shared(has: bool, bare: bool, above: &[Entry]) -> bool
     ensures bare { result ≡ true → bare ≡ true }
     ensures same { result ≡ true → AreEach (λ m. IsCombined None None has) (length above.now) above.now above.now }
@@ -49,12 +49,12 @@ fn is_shared(has: bool, bare: bool, above: &[Entry]) -> bool
 }
 
 /// Adds the column of class `t` for interface `i`, from that of its base, and gives its number. `has` tells whether the class
-/// has the interface itself, and `bare` that it has nothing of its own.
+/// has the interface itself, and `bare` that it has nothing of its own for it.
 pub(crate) fn add_column(
     checked: &Checked,
     closed: &Closed,
     parts: &Parts,
-    names: &[Names],
+    named: &Named,
     t: u16,
     i: u16,
     has: bool,
@@ -64,18 +64,18 @@ pub(crate) fn add_column(
 ) -> Result<usize, AllocError>
     requires together { closed.now.decls ≡ decls_of checked.now }
     requires parts { AreParts closed.now (depths_of checked.now) parts.now.table.reached parts.now.table.maps parts.now.given }
-    requires names { AreMethodNames closed.now.decls.list names.now }
+    requires named { AreNamed closed.now.decls.list named.now }
     requires class { t < length closed.now.types }
     requires interface { i < length closed.now.types }
     requires having { IsHaving closed.now t i has }
-    requires bare { bare ≡ true → IsBare closed.now t }
+    requires bare { bare ≡ true → HasNone closed.now t i }
     requires above { IsColumn closed.now (base_of closed.now.decls.list (type_at closed.now.types t)) i above.now }
     ensures number { IfOk result (IsColumnOf closed.now columns.new t i) }
     ensures keeps { OnOk result (Keeps columns.old columns.new) }
 {
     let number = columns.count();
     column(
-        checked, closed, parts, names, t, i, has, bare, above, columns,
+        checked, closed, parts, named, t, i, has, bare, above, columns,
     )?;
     Ok(number)
 }
@@ -86,7 +86,7 @@ pub(crate) fn number_over(
     checked: &Checked,
     closed: &Closed,
     parts: &Parts,
-    names: &[Names],
+    named: &Named,
     t: u16,
     i: u16,
     has: bool,
@@ -96,11 +96,11 @@ pub(crate) fn number_over(
 ) -> Result<usize, AllocError>
     requires together { closed.now.decls ≡ decls_of checked.now }
     requires parts { AreParts closed.now (depths_of checked.now) parts.now.table.reached parts.now.table.maps parts.now.given }
-    requires names { AreMethodNames closed.now.decls.list names.now }
+    requires named { AreNamed closed.now.decls.list named.now }
     requires class { t < length closed.now.types }
     requires interface { i < length closed.now.types }
     requires having { IsHaving closed.now t i has }
-    requires bare { bare ≡ true → IsBare closed.now t }
+    requires bare { bare ≡ true → HasNone closed.now t i }
     requires above { IsNumber (IsColumn closed.now (base_of closed.now.decls.list (type_at closed.now.types t)) i) columns.old number }
     ensures number { IfOk result (IsColumnOf closed.now columns.new t i) }
     ensures keeps { OnOk result (Keeps columns.old columns.new) }
@@ -113,7 +113,7 @@ pub(crate) fn number_over(
         checked,
         closed,
         parts,
-        names,
+        named,
         t,
         i,
         has,

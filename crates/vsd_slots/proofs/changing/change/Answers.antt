@@ -10,4 +10,4 @@ returns-then-is_bare c =
     let i = c.args.i in
     let above = c.args.column.now in
     let having = subst (λ (has : Bool). IsHaving s t i has) c.if-not-has.true c.has_itself-has.ensures in
-    stepped-column s t i above above c.requires.above (unchanged-steps s t i above c.requires.interface (c.is_bare.ensures c.if-is_bare.true) having)
+    stepped-column s t i above above c.requires.above (unchanged-steps s t i above c.requires.interface c.requires.above (c.is_bare.ensures c.if-is_bare.true) having)

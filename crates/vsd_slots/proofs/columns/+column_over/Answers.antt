@@ -19,7 +19,7 @@ column_over-requires t c =
     let is = base-some s c.args.t c.args.i 0 c.base.result c.base.ensures.number b c.in-Some.is in
     let lower = base-falls ds depths c.requires.parts.hierarchy (type_at s.types c.args.t) (type_at s.types b) is in
     let falls : rank_of ds depths (type_at s.types b) < t = omega (arith, c.decreases, lower) in
-    (falls, (c.requires.together, (c.requires.parts, (c.requires.names, (c.requires.numbers, (c.requires.kept, (c.in-Some.ensures.within, c.requires.interface)))))))
+    (falls, (c.requires.together, (c.requires.parts, (c.requires.named, (c.requires.buckets, (c.requires.kept, (c.in-Some.ensures.within, c.requires.interface)))))))
 
 pub returns-in-Some-number : goal.returns-in-Some-number
 returns-in-Some-number t c =

@@ -17,7 +17,7 @@ returns-then-bare c =
     let has = c.args.has in
     let P : List Entry → Type 0 = AreEach (λ m. IsCombined None None has) (length above) above in
     let Q : List Entry → Type 0 = IsColumn s (Some (type_at s.types t)) i in
-    let step : (column : List Entry) → P column → Q column = λ column each. stepped-column s t i above column c.requires.above (passed-steps s t i has (length above) above column c.requires.interface (c.requires.bare c.if-bare.true) c.requires.having each) in
+    let step : (column : List Entry) → P column → Q column = λ column each. stepped-column s t i above column c.requires.above (passed-steps s t i has above column c.requires.above (c.requires.bare c.if-bare.true) c.requires.having each) in
     on_ok_weaker c.passed_on.result (gains-weaker P Q c.args.found.now c.passed_on.new.found step) c.passed_on.ensures
 
 pub returns : goal.returns

@@ -13,4 +13,4 @@ fill-requires t c =
     let b = c.in-Some.base in
     let lower = base-falls ds depths c.requires.parts.hierarchy (type_at s.types c.args.t) (type_at s.types b) c.in-Some.ensures.base in
     let falls : rank_of ds depths (type_at s.types b) < t = omega (arith, c.decreases, lower) in
-    (falls, (c.requires.together, (c.requires.parts, (c.requires.names, (c.requires.right, (c.requires.blank, (c.requires.kept, c.in-Some.ensures.within)))))))
+    (falls, (c.requires.together, (c.requires.parts, (c.requires.named, (c.requires.right, (c.requires.blank, (c.requires.kept, c.in-Some.ensures.within)))))))

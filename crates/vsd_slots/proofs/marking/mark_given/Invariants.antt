@@ -7,6 +7,6 @@ use Rattle.vsd_slots.proofs.marking.mark_given.Given as goal
 
 abbrev pub invariant-loop-k : goal.invariant-loop-k
 invariant-loop-k l = record {
-  marked : (m : ℕ) → m < length l.numbers → IsFree l.marks (get_or l.numbers m 0) → first_given (λ g. answer_of g l.i m) l.given ≡ first_given (λ g. answer_of g l.i m) (drop l.k l.given);
+  marked : (m : ℕ) → m < length l.buckets → IsFree l.marks (get_or l.buckets m 0) → first_given (λ g. answer_of g l.i m) l.given ≡ first_given (λ g. answer_of g l.i m) (drop l.k l.given);
   stays : StaysMarked l.initial.marks l.marks;
 }

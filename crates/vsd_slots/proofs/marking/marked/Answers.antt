@@ -15,4 +15,4 @@ returns c =
     let inside : t < length all = omega (arith, c.requires.parts.given_count, c.requires.class) in
     let read : mine ≡ get_or all t [] = c.as_slice-given.ensures ∙ read-at c.as_slice.result.now all t c.index-as_slice-t.result [] inside c.index-as_slice-t.is c.as_slice.ensures in
     let given : AreGiven s.decls.list s.types (type_at s.types t) mine = subst (λ (l : List (Option Given)). AreGiven s.decls.list s.types (type_at s.types t) l) (sym read) (c.requires.parts.givens t c.requires.class) in
-    marked-all s t c.args.i c.args.names.now c.args.numbers.now mine c.names_marked-marks.result c.mark_given.new.marks c.requires.interface c.requires.numbers c.names_marked-marks.ensures c.mark_given.ensures.stays given c.mark_given.ensures.marked
+    marked-all s t c.args.i c.args.buckets.now mine c.requires.interface c.requires.buckets given c.names_marked-marks.result c.mark_given.new.marks c.names_marked-marks.ensures c.mark_given.ensures.stays c.mark_given.ensures.marked

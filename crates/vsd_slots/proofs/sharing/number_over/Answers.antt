@@ -18,5 +18,5 @@ returns-then-is_shared-clause-number c =
     let column = c.requires.above.holds in
     record {
       within = c.requires.above.within;
-      holds = stepped-column s t i _ _ column (passed-steps s t i has _ _ _ c.requires.interface bare c.requires.having each);
+      holds = stepped-column s t i _ _ column (passed-steps s t i has _ _ column bare c.requires.having each);
     }
