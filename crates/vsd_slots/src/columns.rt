@@ -31,7 +31,7 @@ fn blank(alloc: Global, count: u16) -> Result<Items<Entry>, AllocError>
     Ok(Items::from_vec(found))
 }
 
-// Adds what a class without methods and overrides has.
+// Adds what a class with nothing of its own for the interface has.
 fn passed_on(has: bool, above: &[Entry], found: &mut Ragged) -> Result<(), AllocError>
     ensures { OnOk result (Gains (AreEach (λ m. IsCombined None None has) (length above.now) above.now) found.old found.new) }
 {
@@ -72,7 +72,7 @@ fn stepped(
 }
 
 /// Adds what class `t` has for the methods of interface `i`, from what its base has. `has` tells whether the class has the
-/// interface itself, and `bare` that it has nothing of its own.
+/// interface itself, and `bare` that it has nothing of its own for it.
 pub(crate) fn column(
     checked: &Checked,
     closed: &Closed,
