@@ -10,7 +10,7 @@ use Rattle.vsd_trails.specs.declared.answers.Path.TheVariants.{Stub, Bucket, Wal
 use Rattle.vsd_trails.specs.declared.answers.Unloaded.{Unloaded}
 use Rattle.vsd_trails.specs.Programs.{Fields, TrailStep, onto}
 use Rattle.vsd_trails.specs.CallPaths.{InTurn, AnswerTells}
-use Rattle.vsd_trails.specs.Attempts.{TriesBucket, TriesCell, SweepsAtEnd}
+use Rattle.vsd_trails.specs.Attempts.{TriesBucket, TriesByPath, SweepsAtEnd}
 use Rattle.vsd_rows.specs.Makes.{steps_of, fields_of}
 
 -- the steps that the seat made, the first one first, are so
@@ -25,14 +25,15 @@ WalkTries k site h target f trail Stub = Unit {0}
 WalkTries k site h target f trail Bucket = Unit {0}
 WalkTries k site h target f trail (Walked seen) = TriesBucket k site h target f trail
 
--- A call that walked tried to put its pair into the pair's bucket.
+-- A call that walked tried to put its pair into the pair's bucket, right after it loaded the handle word.
 abbrev pub TriesAfterWalk : Key → ℕ → Handle → Fields → Result Answer Unloaded → List TrailStep → Type 0
 TriesAfterWalk k site h f (Ok a) trail = WalkTries k site h a.target f trail a.path
 TriesAfterWalk k site h f (Err u) trail = Unit {0}
 
--- A call that loaded Lookup and was answered tried to install its pair in the cell.
+-- A call that loaded Lookup and was answered tried to install its pair in the cell, right before its unpin. Where it walked,
+-- this try begins where the one for the bucket ends, so that no claim serves for both.
 abbrev pub TriesAtLookup : Key → ℕ → Handle → Fields → Result Answer Unloaded → List TrailStep → Type 0
-TriesAtLookup k site h f (Ok a) trail = InTurn trail ((LoadCell site, 0) ∷ []) → TriesCell k site h a.target f trail
+TriesAtLookup k site h f (Ok a) trail = InTurn trail ((LoadCell site, 0) ∷ []) → TriesByPath k site h a.target f trail a.path
 TriesAtLookup k site h f (Err u) trail = Unit {0}
 
 module _ (k : Key) (site : ℕ) (h : Handle) (old new : Seated) (answer : Result Answer Unloaded) where

@@ -35,6 +35,20 @@ impl Matrix {
         })
     }
 
+    /// The same bits in memory of their own. The error is want of memory.
+    pub(crate) fn copy(&self, alloc: Global) -> Result<Matrix, AllocError>
+        ensures count { IfOk result (λ m. m.count ≡ self.now.count) }
+        ensures bits { IfOk result (λ m. bits_of m ≡ bits_of self.now) }
+    {
+        let mut words = Vec::new(alloc);
+        words.extend_from_slice(self.words.as_slice())?;
+        Ok(Matrix {
+            count: self.count,
+            width: self.width,
+            words,
+        })
+    }
+
     /// Whether the bit of `t` and `u` is set.
     pub(crate) fn get(&self, t: u16, u: u16) -> bool
         requires first { t < self.now.count }

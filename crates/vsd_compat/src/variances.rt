@@ -30,7 +30,7 @@ pub struct Variances {
 }
 
 impl Variances {
-    ghost use Rattle.vsd_compat.specs.Variances.{AreVariancesOf};
+    ghost use Rattle.vsd_compat.specs.Variances.{AreAlike, AreVariancesOf};
 
     /// Works out which types are compatible with which (ECMA-335, I.8.7): a matrix of bits is filled by the rules until
     /// they give nothing more. The error is want of memory.
@@ -51,7 +51,26 @@ impl Variances {
         requires second { u < length closed.now.types }
         ensures { IsTrue result ↔ IsCompatible closed.now.decls.list (type_at closed.now.types t) (type_at closed.now.types u) }
     {
+        self.bit(t, u)
+    }
+
+    /// The bit of two numbers, for whoever has no list at hand: over the closed list that this was made from, whether a value
+    /// of type `t` may stand where `u` is asked for. One look-up. Takes no memory.
+    pub fn bit(&self, t: u16, u: u16) -> bool
+        requires first { t < self.now.matrix.count }
+        requires second { u < self.now.matrix.count }
+        ensures { IsTrue result ↔ IsSet (bits_of self.now.matrix) t u }
+    {
         self.matrix.get(t, u)
+    }
+
+    /// The same bits in memory of their own. The error is want of memory.
+    pub fn copy(&self, alloc: Global) -> Result<Variances, AllocError>
+        ensures { IfOk result (AreAlike self.now) }
+    {
+        Ok(Variances {
+            matrix: self.matrix.copy(alloc)?,
+        })
     }
 }
 

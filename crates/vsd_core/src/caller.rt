@@ -1,5 +1,5 @@
 //! Callers of a runtime.
-ghost use Rattle.std.specs.Prelude.{◌≡◌};
+ghost use Rattle.std.specs.Prelude.{◌≡◌, length};
 ghost use Rattle.vsd_table.specs.Seating.{view_of, IsNew};
 ghost use Rattle.vsd_handles.specs.Owned.{AreWordsOf};
 ghost use Rattle.vsd_core.specs.Resting.{Rests};
@@ -16,6 +16,7 @@ pub struct Caller {
     pub(crate) hand: Hand,
     pub(crate) owned: Owned,
     ghost words: { AreWordsOf owned hand },
+    ghost count: { length owned ≡ 64 },
     ghost unpinned: { (view_of hand.seated).rows.pinned ≡ 0 },
     ghost rests: { ∥ Rests hand.seated ∥₁ },
 }

@@ -40,6 +40,7 @@ impl<R: Resolver> Runtime<R> {
         ensures complete { IsSure (known_by who.old) h → IsOk result }
         ensures evidence { IfOk result (λ a. HasEvidence (known_by who.new) h (site_token (fixed_in self.now) site) a.target) }
         ensures world { IfOk result (λ a. (number : ℕ) → Knows (known_by who.new).handles h number → a.target ≡ target_of (fixed_in self.now) number (site_token (fixed_in self.now) site)) }
+        ensures own { (known_by who.new).handles.owned ≡ (known_by who.old).handles.owned }
         ensures keeps { KeepsHandles (known_by who.old) (known_by who.new) }
         ensures caller { IsCallerOf self.now who.new }
     {

@@ -47,6 +47,7 @@ impl<R: Resolver> Runtime<R> {
         ensures evidence { IfOk result (λ a. HasCastEvidence (known_by who.new) source target a.yes) }
         ensures world { IfOk result (λ a. (number other : ℕ) → Knows (known_by who.new).handles source number
             → Knows (known_by who.new).handles target other → from_bool a.yes ≡ compatible (fixed_in self.now) number other) }
+        ensures own { (known_by who.new).handles.owned ≡ (known_by who.old).handles.owned }
         ensures keeps { KeepsHandles (known_by who.old) (known_by who.new) }
         ensures caller { IsCallerOf self.now who.new }
     {

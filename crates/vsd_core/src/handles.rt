@@ -10,11 +10,11 @@ ghost use Rattle.vsd_trails.specs.Operations.{Event, loaded, unloaded};
 ghost use Rattle.vsd_trails.specs.declared.answers.Unloaded.{Unloaded};
 ghost use Rattle.vsd_rows.specs.Makes.{Makes};
 ghost use Rattle.vsd_rows.specs.Logged.{LogsOne};
-ghost use Rattle.vsd_handles.specs.OwnRows.{IsOwned, is_spare};
+ghost use Rattle.vsd_handles.specs.OwnRows.{IsOwned, IsNext};
 ghost use Rattle.vsd_unloads.specs.Unloads.{StoresFirst, PurgesAll, SweepsOldest};
 ghost use Rattle.vsd_core.specs.Callers.{seat_of, known_by, LogIs};
 ghost use Rattle.vsd_core.specs.Runtimes.{fixed_in, IsCallerOf, HasHandle, IsHost};
-ghost use Rattle.vsd_core.specs.Owning.{IsPast, KeepsHandles, LosesHandle, HasNoSpare};
+ghost use Rattle.vsd_core.specs.Owning.{IsPast, KeepsHandles, LosesHandle, HasNoSpare, HasBound, HasUnbound, live_in, loads_in};
 
 use crate::caller::Caller;
 use crate::runtime::Runtime;
@@ -27,8 +27,11 @@ impl<R: Resolver> Runtime<R> {
     /// Loads the type of number `t`, below the resolver's count of types: a new handle that names it, until
     /// this caller unloads it.
     ///
-    /// `HandlesFull` comes exactly where each of the caller's 64 rows is live or at its last generation, and
-    /// changes nothing.
+    /// It takes the lowest of the caller's 64 rows that is neither live nor at its last generation, one
+    /// generation on.
+    ///
+    /// `HandlesFull` comes exactly where there is no such row, and changes nothing: never for a caller with
+    /// fewer than 64 live handles that has loaded fewer than 4,294,967,295 times.
     pub fn load(&self, who: &mut Caller, t: u16) -> Result<Handle, HandlesFull>
         requires caller { IsCallerOf self.now who.old }
         requires number { t < (fixed_in self.now).world.types }
@@ -37,6 +40,11 @@ impl<R: Resolver> Runtime<R> {
         ensures trail { IfOk result (λ h. Makes (seat_of who.old) (seat_of who.new) (binding h t) h) }
         ensures logged { IfOk result (λ h. LogsOne (fixed_in self.now) (seat_of who.old) (seat_of who.new) (loaded t h) 1) }
         ensures has { IfOk result (HasHandle (fixed_in self.now)) }
+        ensures next { IfOk result (IsNext (known_by who.old)) }
+        ensures own { IfOk result (λ h. HasBound (known_by who.old) (known_by who.new) h t) }
+        ensures counts { IfOk result (λ h. (live_in (known_by who.new).handles.owned ≡ live_in (known_by who.old).handles.owned + 1)
+            × (loads_in (known_by who.new).handles.owned ≡ loads_in (known_by who.old).handles.owned + 1)) }
+        ensures room { live_in (known_by who.old).handles.owned < 64 → loads_in (known_by who.old).handles.owned < 4294967295 → IsOk result }
         ensures fresh { IfOk result (λ h. (number : ℕ) → ¬ Knows (known_by who.old).handles h number) }
         ensures owned { IfOk result (IsOwned (known_by who.new)) }
         ensures known { IfOk result (λ h. Knows (known_by who.new).handles h t) }
@@ -58,6 +66,9 @@ impl<R: Resolver> Runtime<R> {
         ensures first { StoresFirst h (seat_of who.old) (seat_of who.new) }
         ensures purges { PurgesAll (fixed_in self.now) h (seat_of who.old) (seat_of who.new) }
         ensures sweeps { SweepsOldest (fixed_in self.now) (seat_of who.old) (seat_of who.new) }
+        ensures own { HasUnbound (known_by who.old) (known_by who.new) h }
+        ensures counts { (live_in (known_by who.new).handles.owned + 1 ≡ live_in (known_by who.old).handles.owned)
+            × (loads_in (known_by who.new).handles.owned ≡ loads_in (known_by who.old).handles.owned) }
         ensures owned { (g : Handle) → IsOwned (known_by who.new) g ↔ (IsOwned (known_by who.old) g × (g ≢ h)) }
         ensures loses { LosesHandle (known_by who.old) (known_by who.new) h }
         ensures caller { IsCallerOf self.now who.new }
@@ -81,6 +92,7 @@ impl<R: Resolver> Runtime<R> {
         ensures host { IsHost (fixed_in self.now) h → result ≡ Ok (host_type (fixed_in self.now) h.row) }
         ensures owned { IsOwned (known_by who.old) h → IsOk result }
         ensures past { IsPast (known_by who.old) h → IsErr result }
+        ensures own { (known_by who.new).handles.owned ≡ (known_by who.old).handles.owned }
         ensures keeps { KeepsHandles (known_by who.old) (known_by who.new) }
         ensures caller { IsCallerOf self.now who.new }
     {

@@ -23,6 +23,7 @@
 //! epoch-based reclamation, and of CoreCLR's CastCache; `docs/running.md` tells it.
 #![tactic(auto)]
 
+mod agreement;
 mod caller;
 mod calls;
 mod casts;
@@ -31,12 +32,14 @@ mod laws;
 mod runtime;
 mod starting;
 
+pub use agreement::{answers_agree, own_answers_agree};
 pub use caller::Caller;
-pub use laws::protected_rows_stay;
+pub use laws::{cast_rows_stay, protected_rows_stay};
 pub use runtime::Runtime;
 pub use vsd_handles::HandlesFull;
 pub use vsd_rule::{Resolver, Sizes};
 pub use vsd_trails::{Answer, CastAnswer, Path, Seen, Unloaded};
+pub use vsd_words::{CellWord, Handle, HandleWord};
 
 #[cfg(test)]
 mod tests;

@@ -3,6 +3,7 @@ ghost use Rattle.std.specs.Prelude.{◌≡◌, ◌<◌, IfOk, EachIndex, All, sl
 ghost use Rattle.vsd_rule.specs.Sizes.{LawfulSizes};
 ghost use Rattle.vsd_rule.specs.Lists.{key_with};
 ghost use Rattle.vsd_table.specs.Seating.{IsNew, AreNumbered};
+ghost use Rattle.vsd_table.specs.Opened.{IsOpened};
 ghost use Rattle.vsd_core.specs.Callers.{IsNewCaller, AreInOrder};
 ghost use Rattle.vsd_core.specs.Runtimes.{table_of, fixed_in};
 
@@ -18,7 +19,8 @@ impl<R: Resolver + Drop> Runtime<R> {
     /// `sites` has the token of each call site, below the resolver's count of tokens, and `hosts` the number
     /// of each host's type, below its count of types. At the start all cells are at Lookup, all rows free,
     /// all buckets empty, all counters, versions and the epoch 0, all logs empty, and the hosts' handles live
-    /// at generation 1. The error is want of memory.
+    /// at generation 1: until a caller makes its first step, all words are 0 but for the hosts' (`opened`).
+    /// The error is want of memory.
     pub fn start(
         alloc: Global,
         sizes: Sizes,
@@ -37,6 +39,7 @@ impl<R: Resolver + Drop> Runtime<R> {
         ensures count { IfOk result (λ made. length made.1.items ≡ sizes.callers) }
         ensures callers { IfOk result (λ made. All (IsNewCaller (table_of made.0)) made.1.items) }
         ensures order { IfOk result (λ made. AreInOrder made.1.items) }
+        ensures opened { IfOk result (λ made. IsOpened (table_of made.0)) }
     {
         let (table, seats) = layout(alloc, sizes, sites, hosts, &resolver)?;
         let callers = seated_callers(alloc, &table, seats)?;

@@ -1,5 +1,5 @@
 //! Worked rows of calls, casts and handles, and callers on threads.
-ghost use Rattle.std.specs.Prelude.{◌≡◌, ◌<◌, ◌+◌, ◌*◌, ◌↔◌, All, IfOk, IfSome, IsTrue, slice_index};
+ghost use Rattle.std.specs.Prelude.{◌≡◌, ◌<◌, ◌≤◌, ◌+◌, ◌*◌, ◌↔◌, All, IfOk, IfSome, IsTrue, slice_index};
 ghost use Rattle.vsd_core.specs.Callers.{IsNewCaller};
 ghost use Rattle.vsd_core.specs.Runtimes.{table_of, fixed_in, IsCallerOf};
 ghost use Rattle.vsd_casts.specs.Ladders.{ladder, ladder_of_bits};
@@ -11,7 +11,6 @@ use std::sync::atomic::{AtomicU64, Ordering};
 use std::test::Fail;
 use std::thread;
 use std::thread::Threads;
-use vsd_words::{CellWord, Handle, HandleWord};
 
 /// Four types, of which each is compatible with itself and with those before it, and two tokens. It counts
 /// how often it is asked for a method, and whether two types are compatible.
@@ -61,19 +60,19 @@ fn is_compatible(t: u16, u: u16) -> bool
     u <= t
 }
 
-/// A runtime with the sites 0 and 1 of token 0 and the site 2 of token 1, and with a host of each of
-/// the types 0, 1 and 2.
+/// A runtime with the sites 0 and 1 of token 0 and the sites 2 and 3 of token 1, and with twelve hosts, of
+/// the types 0 to 3 over and over.
 #[derive(Drop)]
 struct Opened {
     runtime: Runtime<World>,
-    ghost sites: { (fixed_in runtime).sizes.sites ≡ 3 },
-    ghost hosts: { (fixed_in runtime).sizes.hosts ≡ 3 },
+    ghost sites: { (fixed_in runtime).sizes.sites ≡ 4 },
+    ghost hosts: { (fixed_in runtime).sizes.hosts ≡ 12 },
     ghost types: { (fixed_in runtime).world.types ≡ 4 },
 }
 
 impl Opened {
     fn host(&self, i: u16) -> Handle
-        requires { i < 3 }
+        requires { i < 12 }
     {
         self.runtime.host(i)
     }
@@ -81,7 +80,7 @@ impl Opened {
     /// A call of a site on a handle that the runtime has.
     fn call(&self, who: &mut Caller, site: u16, h: Handle) -> Option<Answer>
         requires caller { IsCallerOf self.now.runtime who.old }
-        requires site { site < 3 }
+        requires site { site < 4 }
         ensures caller { IsCallerOf self.now.runtime who.new }
     {
         if !self.runtime.has(h) {
@@ -139,7 +138,7 @@ impl Opened {
     /// The word by which a call finds that the handle is unloaded, if it does.
     fn found_unloaded(&self, who: &mut Caller, site: u16, h: Handle) -> Option<HandleWord>
         requires caller { IsCallerOf self.now.runtime who.old }
-        requires site { site < 3 }
+        requires site { site < 4 }
         ensures caller { IsCallerOf self.now.runtime who.new }
     {
         if !self.runtime.has(h) {
@@ -174,7 +173,7 @@ impl Opened {
     }
 }
 
-/// Opens a runtime of these sizes, if they are lawful.
+/// Opens a runtime of these sizes, with one region of cast rows, if they are lawful.
 fn open_world(
     alloc: Global,
     callers: u16,
@@ -183,14 +182,27 @@ fn open_world(
 ) -> Result<Option<(Opened, Vec<Caller>)>, AllocError>
     ensures { IfOk result (λ found. IfSome found (λ made. All (IsNewCaller (table_of made.0.runtime)) made.1.items)) }
 {
+    open_regions(alloc, callers, rows, miss, 1)
+}
+
+/// Opens a runtime of these sizes, if they are lawful.
+fn open_regions(
+    alloc: Global,
+    callers: u16,
+    rows: u16,
+    miss: u64,
+    regions: u16,
+) -> Result<Option<(Opened, Vec<Caller>)>, AllocError>
+    ensures { IfOk result (λ found. IfSome found (λ made. All (IsNewCaller (table_of made.0.runtime)) made.1.items)) }
+{
     let sizes = Sizes {
         callers,
-        sites: 3,
+        sites: 4,
         tokens: 2,
         rows,
         buckets: 1,
-        hosts: 3,
-        regions: 1,
+        hosts: 12,
+        regions,
         miss,
     };
     if !sizes.lawful() {
@@ -200,7 +212,9 @@ fn open_world(
         asked: AtomicU64::new(0),
         compared: AtomicU64::new(0),
     };
-    let (runtime, callers) = Runtime::start(alloc, sizes, &[0, 0, 1], &[0, 1, 2], world)?;
+    let sites = [0, 0, 1, 1];
+    let hosts = [0, 1, 2, 3, 0, 1, 2, 3, 0, 1, 2, 3];
+    let (runtime, callers) = Runtime::start(alloc, sizes, &sites, &hosts, world)?;
     Ok(Some((Opened { runtime }, callers)))
 }
 
@@ -320,6 +334,7 @@ struct Worker {
     caller: Caller,
     /// Where its next choice is drawn from.
     seed: u64,
+    stubbed: u64,
     walked: u64,
     wrong: u64,
 }
@@ -341,7 +356,7 @@ impl Worker {
     /// A call, with its answer checked against the world.
     fn call(&mut self, opened: &Opened, site: u16, t: u16, h: Handle)
         requires caller { IsCallerOf opened.now.runtime self.old.caller }
-        requires site { site < 3 }
+        requires site { site < 4 }
         requires number { t < 4 }
         ensures caller { IsCallerOf opened.now.runtime self.new.caller }
     {
@@ -350,8 +365,10 @@ impl Worker {
                 if answer.target != target(t, site / 2) {
                     self.wrong = self.wrong.wrapping_add(1);
                 }
-                if matches!(&answer.path, Path::Walked(_)) {
-                    self.walked = self.walked.wrapping_add(1);
+                match &answer.path {
+                    Path::Stub => self.stubbed = self.stubbed.wrapping_add(1),
+                    Path::Bucket => {}
+                    Path::Walked(_) => self.walked = self.walked.wrapping_add(1),
                 }
             }
             None => self.wrong = self.wrong.wrapping_add(1),
@@ -390,20 +407,22 @@ impl Worker {
         }
     }
 
-    /// Calls or casts on the hosts and on a handle of its own, which is another one every few turns.
-    fn work(&mut self, opened: &Opened, turns: u32, casting: bool)
+    /// Casts, or calls through the first `sites` sites, where there are any, on the hosts and on a handle of its own, which
+    /// is another one every few turns.
+    fn work(&mut self, opened: &Opened, turns: u32, sites: u16)
         requires caller { IsCallerOf opened.now.runtime self.old.caller }
+        requires sites { sites ≤ 4 }
         ensures caller { IsCallerOf opened.now.runtime self.new.caller }
     {
         let mut t = 0;
         let mut own = opened.host(0);
         for _ in 0..turns {
             let (from, source) = self.object(opened, t, own);
-            if casting {
+            if sites == 0 {
                 let (to, target) = self.object(opened, t, own);
                 self.cast(opened, from, source, to, target);
             } else {
-                let site = self.draw(3);
+                let site = self.draw(sites);
                 self.call(opened, site, from, source);
             }
             if self.draw(20) == 0 {
@@ -435,6 +454,7 @@ fn workers_of(
         workers.push(Worker {
             caller,
             seed,
+            stubbed: 0,
             walked: 0,
             wrong: 0,
         })?;
@@ -442,33 +462,45 @@ fn workers_of(
     Ok(workers)
 }
 
-/// All workers at work, each on a thread of its own: how many answers were wrong, and how many were walked.
+/// What all workers count.
+#[derive(Drop)]
+struct Counts {
+    stubbed: u64,
+    walked: u64,
+    wrong: u64,
+}
+
+/// All workers at work, each on a thread of its own, and what they count.
 fn all_at_work<R: Threads + Sync>(
     rt: &R,
     opened: &Opened,
     workers: &mut Vec<Worker>,
     turns: u32,
-    casting: bool,
-) -> (u64, u64)
-    requires { All (λ (w : Worker). IsCallerOf opened.now.runtime w.caller) workers.old.items }
+    sites: u16,
+) -> Counts
+    requires workers { All (λ (w : Worker). IsCallerOf opened.now.runtime w.caller) workers.old.items }
+    requires sites { sites ≤ 4 }
 {
     let threads = workers.len();
-    if threads == 0 {
-        return (1, 0);
+    if threads > 0 {
+        thread::for_each_mut(
+            rt,
+            workers,
+            threads,
+            &|_, worker| worker.work(opened, turns, sites),
+        );
     }
-    thread::for_each_mut(
-        rt,
-        workers,
-        threads,
-        &|_, worker| worker.work(opened, turns, casting),
-    );
-    let mut wrong = 0u64;
-    let mut walked = 0u64;
+    let mut counts = Counts {
+        stubbed: 0,
+        walked: 0,
+        wrong: 0,
+    };
     for worker in workers.iter() {
-        wrong = wrong.wrapping_add(worker.wrong);
-        walked = walked.wrapping_add(worker.walked);
+        counts.stubbed = counts.stubbed.wrapping_add(worker.stubbed);
+        counts.walked = counts.walked.wrapping_add(worker.walked);
+        counts.wrong = counts.wrong.wrapping_add(worker.wrong);
     }
-    (wrong, walked)
+    counts
 }
 
 #[test]
@@ -479,23 +511,57 @@ fn each_answer_on_each_thread_is_the_worlds(rt: HostRuntime) -> Result<(), Fail>
                 "lawful sizes",
             )?;
             let mut workers = workers_of(rt.alloc(), &opened, callers)?;
-            let (wrong, walked) = all_at_work(&rt, &opened, &mut workers, 100_000, false);
-            assert_eq!(rt; wrong, 0);
-            assert_eq!(rt; opened.asked(), walked);
+            let counts = all_at_work(&rt, &opened, &mut workers, 100_000, 3);
+            assert_eq!(rt; counts.wrong, 0);
+            assert_eq!(rt; opened.asked(), counts.walked);
         }
+    }
+    Ok(())
+}
+
+/// Where cells stay with a row, stubs answer: few sites, and many misses before a cell is given up.
+#[test]
+fn stubs_answer_on_threads(rt: HostRuntime) -> Result<(), Fail> {
+    for (callers, sites, miss) in [(3, 1, 400), (4, 2, 600), (8, 3, 800), (16, 4, 1_000)] {
+        let (opened, callers) = open_world(rt.alloc(), callers, 64, miss)?.ok_or("lawful sizes")?;
+        let mut workers = workers_of(rt.alloc(), &opened, callers)?;
+        let counts = all_at_work(&rt, &opened, &mut workers, 10_000, sites);
+        assert_eq!(rt; counts.wrong, 0);
+        assert!(rt; counts.stubbed > 0);
     }
     Ok(())
 }
 
 #[test]
 fn each_cast_on_each_thread_is_the_worlds(rt: HostRuntime) -> Result<(), Fail> {
-    for callers in [2, 4] {
-        let (opened, callers) = open_world(rt.alloc(), callers, 4, 100)?.ok_or("lawful sizes")?;
+    for (callers, regions) in [(2, 1), (4, 1), (2, 3), (4, 6)] {
+        let (opened, callers) = open_regions(rt.alloc(), callers, 4, 100, regions)?.ok_or(
+            "lawful sizes",
+        )?;
         let mut workers = workers_of(rt.alloc(), &opened, callers)?;
-        let (wrong, walked) = all_at_work(&rt, &opened, &mut workers, 100_000, true);
-        assert_eq!(rt; wrong, 0);
-        assert!(rt; walked > 128);
-        assert_eq!(rt; opened.compared(), walked);
+        let counts = all_at_work(&rt, &opened, &mut workers, 100_000, 0);
+        assert_eq!(rt; counts.wrong, 0);
+        assert!(rt; counts.walked > 128);
+        assert_eq!(rt; opened.compared(), counts.walked);
+    }
+    Ok(())
+}
+
+#[test]
+fn each_pair_of_hosts_is_cast_twice(rt: HostRuntime) -> Result<(), Fail> {
+    for regions in [1, 2, 6] {
+        let (opened, mut callers) = open_regions(rt.alloc(), 1, 4, 100, regions)?.ok_or(
+            "lawful sizes",
+        )?;
+        let mut who = last(&opened, &mut callers).ok_or("one caller")?;
+        for turn in 0..288u16 {
+            let (source, target) = (turn / 12 % 12, turn % 12);
+            let answer = opened
+                .cast(&mut who, opened.host(source), opened.host(target))
+                .ok_or("answered")?;
+            assert_eq!(rt; answer.yes, target % 4 <= source % 4);
+        }
+        assert!(rt; opened.compared() < 288);
     }
     Ok(())
 }

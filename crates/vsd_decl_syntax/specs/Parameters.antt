@@ -28,14 +28,10 @@ digit_below most _ = None
 abbrev pub most_params : ℕ
 most_params = 8
 
-abbrev pub one_of_eight : Option ℕ → Option ℕ
-one_of_eight None = None
-one_of_eight (Some place) = if nat_lt place most_params then Some place else None
-
 -- by its place or by its name, among the parameters of the class in hand
 abbrev pub own_parameter : List Param → TokenClass → List ℕ → Option ℕ
 own_parameter params class.Number bytes = digit_below (length params) bytes
-own_parameter params q bytes = if is_name q then one_of_eight (position (λ p. bytes_eq p.name bytes) params) else None
+own_parameter params q bytes = if is_name q then position (λ p. bytes_eq p.name bytes) params else None
 
 -- by its place alone, among those of an override's owner
 abbrev pub owner_parameter : TokenClass → List ℕ → Option ℕ

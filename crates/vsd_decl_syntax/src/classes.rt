@@ -1,6 +1,7 @@
 //! Classes and interfaces.
-ghost use Rattle.std.specs.Prelude.{◌≡◌, true};
+ghost use Rattle.std.specs.Prelude.{◌≡◌, ◌≤◌, true, length};
 ghost use Rattle.vsd_grammar.specs.Grammar.{run};
+ghost use Rattle.vsd_decl_syntax.specs.Parameters.{most_params};
 ghost use Rattle.vsd_grammar.specs.Productions.{Reads};
 ghost use Rattle.vsd_decl_syntax.specs.Classes as spec;
 ghost use Rattle.vsd_type_syntax.specs.Types.{first_cause};
@@ -88,6 +89,7 @@ fn no_extern(cursor: &Cursor<'_>) -> Result<(), Stop>
 /// A named type or a built-in class, with the line of its first token.
 #[tactic(auto, unfolding(crate::specs::Classes::located))]
 fn located(alloc: Global, cursor: &mut Cursor<'_>, params: &[Param]) -> Result<Located, Stop>
+    requires { length params.now ≤ most_params }
     ensures { Reads (run _ (spec.located params.now) cursor.old) result cursor.new }
 {
     let rules = DeclRules {
@@ -101,6 +103,7 @@ fn located(alloc: Global, cursor: &mut Cursor<'_>, params: &[Param]) -> Result<L
 
 #[tactic(auto, unfolding(crate::specs::Classes::base))]
 fn base(alloc: Global, cursor: &mut Cursor<'_>, params: &[Param]) -> Result<Option<Located>, Stop>
+    requires { length params.now ≤ most_params }
     ensures { Reads (run _ (spec.base params.now) cursor.old) result cursor.new }
 {
     if !cursor.sees(TokenClass::Word(Keyword::Extends)) {
@@ -117,12 +120,14 @@ fn interface_list(
     cursor: &mut Cursor<'_>,
     params: &[Param],
 ) -> Result<Items<Located>, Stop>
+    requires { length params.now ≤ most_params }
     ensures { Reads (run _ (spec.interface_list params.now) cursor.old) result cursor.new }
 {
     let first = |class: TokenClass, bytes: &[u8]| -> Option<Cause>
         ensures { result ≡ first_cause true class bytes.now }
     { first_cause(true, class, bytes) };
     let item = |inner: &mut Cursor<'_>| -> Result<Located, Stop>
+        requires { length params.now ≤ most_params }
         ensures { Reads (run _ (spec.located params.entry.now) inner.old) result inner.new }
     { located(alloc, inner, params) };
     let many = Cause::TooMany(Counted::Interfaces);
@@ -135,6 +140,7 @@ fn interfaces(
     cursor: &mut Cursor<'_>,
     params: &[Param],
 ) -> Result<Items<Located>, Stop>
+    requires { length params.now ≤ most_params }
     ensures { Reads (run _ (spec.interfaces params.now) cursor.old) result cursor.new }
 {
     if !cursor.sees(TokenClass::Word(Keyword::Implements)) {
@@ -152,6 +158,7 @@ fn block(
     is_interface: bool,
     params: &[Param],
 ) -> Result<Members, Stop>
+    requires { length params.now ≤ most_params }
     ensures { Reads (run _ (spec.block is_interface params.now) cursor.old) result cursor.new }
 {
     cursor.expect(TokenClass::Symbol(b'{'))?;
@@ -170,6 +177,7 @@ fn class_from(
     name: u16,
     params: Items<Param>,
 ) -> Result<Decl, Stop>
+    requires { length params ≤ most_params }
     ensures { Reads (run _ (spec.class_from line attributes name params) cursor.old) result cursor.new }
 {
     let base = base(alloc, cursor, params.as_slice())?;

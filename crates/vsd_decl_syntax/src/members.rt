@@ -1,6 +1,7 @@
 //! The members of a declaration.
-ghost use Rattle.std.specs.Prelude.{◌≡◌};
+ghost use Rattle.std.specs.Prelude.{◌≡◌, ◌≢◌, ◌≤◌, length};
 ghost use Rattle.vsd_grammar.specs.Grammar.{run};
+ghost use Rattle.vsd_decl_syntax.specs.Parameters.{most_params};
 ghost use Rattle.vsd_grammar.specs.Productions.{Reads};
 ghost use Rattle.vsd_decl_syntax.specs.Members as spec;
 
@@ -62,10 +63,11 @@ fn kind_of(class: TokenClass) -> Kind
 }
 
 /// An item that is passed over: up to the next directive outside of its braces, to the brace that closes what is around
-/// it, or to `%%`. The end, and `%%` within its braces, are refused as unexpected.
+/// it, or to `%%`. The end, and `%%` within its braces, are refused as unexpected. Takes no memory.
 #[tactic(auto, unfolding(crate::specs::Members::passed))]
 pub fn passed(cursor: &mut Cursor<'_>) -> Result<(), Stop>
-    ensures { Reads (run _ spec.passed cursor.old) result cursor.new }
+    ensures reads { Reads (run _ spec.passed cursor.old) result cursor.new }
+    ensures sure { result ≢ Err Stop.Memory }
 {
     cursor.pass()?;
     skip_item(cursor)?;
@@ -79,6 +81,7 @@ fn overridden(
     params: &[Param],
     found: Members,
 ) -> Result<Members, Stop>
+    requires { length params.now ≤ most_params }
     ensures { Reads (run _ (spec.overridden params.now found) cursor.old) result cursor.new }
 {
     let Members { methods, overrides } = found;
@@ -94,6 +97,7 @@ fn member(
     params: &[Param],
     found: Members,
 ) -> Result<Members, Stop>
+    requires { length params.now ≤ most_params }
     ensures { Reads (run _ (spec.member is_interface params.now found) cursor.old) result cursor.new }
 {
     match kind_of(cursor.class()) {
@@ -115,6 +119,7 @@ pub fn members_of(
     is_interface: bool,
     params: &[Param],
 ) -> Result<Members, Stop>
+    requires { length params.now ≤ most_params }
     ensures { Reads (run _ (spec.members is_interface params.now) cursor.old) result cursor.new }
 {
     let none = Members {
@@ -122,6 +127,7 @@ pub fn members_of(
         overrides: Items::new(alloc),
     };
     let item = |inner: &mut Cursor<'_>, found: Members| -> Result<Members, Stop>
+        requires { length params.now ≤ most_params }
         ensures { Reads (run _ (spec.member is_interface params.entry.now found) inner.old) result inner.new }
     { member(alloc, inner, is_interface, params, found) };
     until(cursor, none, closes, item)

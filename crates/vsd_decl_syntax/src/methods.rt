@@ -1,6 +1,7 @@
 //! Methods: their attributes, which of them are kept, their bodies.
-ghost use Rattle.std.specs.Prelude.{◌≡◌, ◌<◌, length};
+ghost use Rattle.std.specs.Prelude.{◌≡◌, ◌≢◌, ◌<◌, ◌≤◌, length};
 ghost use Rattle.vsd_grammar.specs.Grammar.{run};
+ghost use Rattle.vsd_decl_syntax.specs.Parameters.{most_params};
 ghost use Rattle.vsd_grammar.specs.Input.{same_class};
 ghost use Rattle.vsd_grammar.specs.Skipping.{closing, skip as spec_skip};
 ghost use Rattle.vsd_grammar.specs.Productions.{Reads};
@@ -158,6 +159,7 @@ fn body_item(
     own: u16,
     found: Items<Override>,
 ) -> Result<Items<Override>, Stop>
+    requires { length params.now ≤ most_params }
     ensures { Reads (run _ (spec.body_item params.now own found) cursor.old) result cursor.new }
 {
     if is_override(cursor.class()) {
@@ -189,9 +191,11 @@ fn body_items(
     own: u16,
     found: Items<Override>,
 ) -> Result<Items<Override>, Stop>
+    requires { length params.now ≤ most_params }
     ensures { Reads (run _ (spec.body_items params.now own found) cursor.old) result cursor.new }
 {
     let item = |inner: &mut Cursor<'_>, more: Items<Override>| -> Result<Items<Override>, Stop>
+        requires { length params.now ≤ most_params }
         ensures { Reads (run _ (spec.body_item params.entry.now own more) inner.old) result inner.new }
     { body_item(alloc, inner, params, own, more) };
     until(cursor, found, closes, item)
@@ -206,6 +210,7 @@ fn body(
     own: u16,
     found: Items<Override>,
 ) -> Result<Items<Override>, Stop>
+    requires { length params.now ≤ most_params }
     ensures { Reads (run _ (spec.body params.now own found) cursor.old) result cursor.new }
 {
     cursor.expect(TokenClass::Symbol(b'{'))?;
@@ -233,6 +238,7 @@ fn header(
     line: u32,
     attributes: MethodAttributes,
 ) -> Result<Method, Stop>
+    requires { length params.now ≤ most_params }
     ensures { Reads (run _ (spec.header params.now line attributes) cursor.old) result cursor.new }
 {
     let rules = DeclRules {
@@ -267,7 +273,8 @@ fn kept(
     attributes: MethodAttributes,
     found: Members,
 ) -> Result<Members, Stop>
-    requires { length found.methods < 256 }
+    requires room { length found.methods < 256 }
+    requires few { length params.now ≤ most_params }
     ensures { Reads (run _ (spec.kept params.now line attributes found) cursor.old) result cursor.new }
 {
     let Members {
@@ -297,7 +304,8 @@ fn ends_item(class: TokenClass) -> bool
 /// Passes over the rest of an item: up to the next directive outside of its braces, to the brace that closes what is
 /// around it, or to `%%`.
 pub fn skip_item(cursor: &mut Cursor<'_>) -> Result<u32, Stop>
-    ensures { Reads (run _ (spec_skip spec.ends_item) cursor.old) result cursor.new }
+    ensures reads { Reads (run _ (spec_skip spec.ends_item) cursor.old) result cursor.new }
+    ensures sure { result ≢ Err Stop.Memory }
 {
     skip(cursor, ends_item)
 }
@@ -313,6 +321,7 @@ pub fn method(
     params: &[Param],
     found: Members,
 ) -> Result<Members, Stop>
+    requires { length params.now ≤ most_params }
     ensures { Reads (run _ (spec.method is_interface params.now found) cursor.old) result cursor.new }
 {
     let index = cursor.index();

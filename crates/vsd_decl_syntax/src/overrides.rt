@@ -1,8 +1,8 @@
 //! Overrides: what they name, in a body and in a class.
-ghost use Rattle.std.specs.Prelude.{◌≡◌};
+ghost use Rattle.std.specs.Prelude.{◌≡◌, ◌≤◌, length};
 ghost use Rattle.vsd_grammar.specs.Grammar.{run};
 ghost use Rattle.vsd_grammar.specs.Productions.{Reads};
-ghost use Rattle.vsd_decl_syntax.specs.Parameters.{rules_of};
+ghost use Rattle.vsd_decl_syntax.specs.Parameters.{rules_of, most_params};
 ghost use Rattle.vsd_decl_syntax.specs.Overrides as spec;
 
 use crate::arguments::arguments;
@@ -61,6 +61,7 @@ fn method_ref(
 
 #[tactic(auto, unfolding(crate::specs::Overrides::short_target))]
 fn short_target(alloc: Global, cursor: &mut Cursor<'_>, params: &[Param]) -> Result<Target, Stop>
+    requires { length params.now ≤ most_params }
     ensures { Reads (run _ (spec.short_target params.now) cursor.old) result cursor.new }
 {
     let rules = DeclRules {
@@ -79,6 +80,7 @@ fn short_target(alloc: Global, cursor: &mut Cursor<'_>, params: &[Param]) -> Res
 
 #[tactic(auto, unfolding(crate::specs::Overrides::long_target))]
 fn long_target(alloc: Global, cursor: &mut Cursor<'_>, params: &[Param]) -> Result<Target, Stop>
+    requires { length params.now ≤ most_params }
     ensures { Reads (run _ (spec.long_target params.now) cursor.old) result cursor.new }
 {
     let own = DeclRules {
@@ -105,6 +107,7 @@ fn long_target(alloc: Global, cursor: &mut Cursor<'_>, params: &[Param]) -> Resu
 /// What is overridden, in a class with these parameters.
 #[tactic(auto, unfolding(crate::specs::Overrides::target))]
 fn any_target(alloc: Global, cursor: &mut Cursor<'_>, params: &[Param]) -> Result<Target, Stop>
+    requires { length params.now ≤ most_params }
     ensures { Reads (run _ (spec.target params.now) cursor.old) result cursor.new }
 {
     if cursor.sees(TokenClass::Word(Keyword::Method)) {
@@ -151,6 +154,7 @@ pub fn body_override(
     own: u16,
     mut found: Items<Override>,
 ) -> Result<Items<Override>, Stop>
+    requires { length params.now ≤ most_params }
     ensures { Reads (run _ (spec.body_override params.now own found) cursor.old) result cursor.new }
 {
     let line = cursor.line();
@@ -168,6 +172,7 @@ fn implementer_ref(
     cursor: &mut Cursor<'_>,
     params: &[Param],
 ) -> Result<Implementer, Stop>
+    requires { length params.now ≤ most_params }
     ensures { Reads (run _ (spec.implementer_ref params.now) cursor.old) result cursor.new }
 {
     let own = DeclRules {
@@ -196,6 +201,7 @@ pub fn class_override(
     params: &[Param],
     mut found: Items<Override>,
 ) -> Result<Items<Override>, Stop>
+    requires { length params.now ≤ most_params }
     ensures { Reads (run _ (spec.class_override params.now found) cursor.old) result cursor.new }
 {
     let line = cursor.line();

@@ -1,5 +1,5 @@
 //! The parameters of a declaration.
-ghost use Rattle.std.specs.Prelude.{◌≡◌};
+ghost use Rattle.std.specs.Prelude.{◌≡◌, ◌≤◌, length, IfOk};
 ghost use Rattle.vsd_grammar.specs.Grammar.{run};
 ghost use Rattle.vsd_grammar.specs.Productions.{Reads};
 ghost use Rattle.vsd_decl_syntax.specs.Parameters as spec;
@@ -106,9 +106,10 @@ fn param_list(alloc: Global, cursor: &mut Cursor<'_>) -> Result<Items<Param>, St
 }
 
 /// The parameters of a declaration, between `<` and `>`, if it has any.
-#[tactic(auto, unfolding(crate::specs::Parameters::params))]
+#[tactic(auto, unfolding(crate::specs::Parameters::params), using(crate::proofs::Few::few_listed))]
 pub fn params(alloc: Global, cursor: &mut Cursor<'_>) -> Result<Items<Param>, Stop>
-    ensures { Reads (run _ spec.params cursor.old) result cursor.new }
+    ensures reads { Reads (run _ spec.params cursor.old) result cursor.new }
+    ensures few { IfOk result (λ params. length params ≤ spec.most_params) }
 {
     if !cursor.sees(TokenClass::Symbol(b'<')) {
         return Ok(Items::new(alloc));

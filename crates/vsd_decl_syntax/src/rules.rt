@@ -1,9 +1,9 @@
 //! What names and parameters stand for in declarations.
-ghost use Rattle.std.specs.Prelude.{◌≡◌, position};
+ghost use Rattle.std.specs.Prelude.{◌≡◌, ◌≤◌, length, position};
 ghost use Rattle.std.specs.Str.{bytes_eq};
 ghost use Rattle.vsd_grammar.specs.Grammar.{run};
 ghost use Rattle.vsd_grammar.specs.Productions.{Reads, name};
-ghost use Rattle.vsd_decl_syntax.specs.Parameters.{digit_below, one_of_eight};
+ghost use Rattle.vsd_decl_syntax.specs.Parameters.{digit_below, most_params};
 ghost use Rattle.vsd_decl_syntax.specs.Parameters as spec;
 
 use sqlite_items::Items;
@@ -18,10 +18,11 @@ pub const MOST_PARAMS: u8 = 8;
 /// How types are read in declarations, with these parameters in hand.
 #[derive(Clone, Copy)]
 pub struct DeclRules<'a> {
-    /// The parameters of the class in hand.
+    /// The parameters of the class in hand, at most 8.
     pub params: &'a [Param],
     /// Whether `!` names a parameter of an override's owner instead, by its place.
     pub of_owner: bool,
+    ghost few: { length params.now ≤ most_params },
 }
 
 impl TypeRules for DeclRules<'_> {
@@ -91,13 +92,14 @@ fn owner_parameter(class: TokenClass, bytes: &[u8]) -> Option<u8>
 
 /// The parameter of the class in hand that a token names.
 fn own_parameter(params: &[Param], class: TokenClass, bytes: &[u8]) -> Option<u8>
+    requires { length params.now ≤ most_params }
     ensures { result ≡ spec.own_parameter params.now class bytes.now }
 {
     match class {
         TokenClass::Number => digit_below(params.len(), bytes),
         _ => {
             if is_name(class) {
-                one_of_eight(place_of(params, bytes))
+                place_of(params, bytes)
             } else {
                 None
             }
@@ -106,7 +108,18 @@ fn own_parameter(params: &[Param], class: TokenClass, bytes: &[u8]) -> Option<u8
 }
 
 /// The place of the first parameter of this name.
-fn place_of(params: &[Param], name: &[u8]) -> Option<usize>
+#[tactic(auto, using(crate::proofs::Few::place_is_small))]
+fn place_of(params: &[Param], name: &[u8]) -> Option<u8>
+    requires { length params.now ≤ most_params }
+    ensures { result ≡ position (λ p. bytes_eq p.name name.now) params.now }
+{
+    match first_named(params, name) {
+        Some(place) => Some(place as u8),
+        None => None,
+    }
+}
+
+fn first_named(params: &[Param], name: &[u8]) -> Option<usize>
     ensures { result ≡ position (λ p. bytes_eq p.name name.now) params.now }
 {
     params.iter().position(|param| is_named(param, name))
@@ -116,21 +129,6 @@ fn is_named(param: &Param, name: &[u8]) -> bool
     ensures { result ≡ bytes_eq param.now.name name.now }
 {
     param.name.as_slice() == name
-}
-
-fn one_of_eight(place: Option<usize>) -> Option<u8>
-    ensures { result ≡ one_of_eight place }
-{
-    match place {
-        Some(place) => {
-            if place < MOST_PARAMS as usize {
-                Some(place as u8)
-            } else {
-                None
-            }
-        }
-        None => None,
-    }
 }
 
 /// A name, which is copied.

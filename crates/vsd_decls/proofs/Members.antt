@@ -68,17 +68,9 @@ digit_within most (b ∷ []) n e = go (is_digit b && ltb (b - 48) most) refl e
     go false f g = absurd cc
 digit_within most (b ∷ c ∷ bs) n e = absurd cc
 
-named_within : (ps : List Param) (bytes : List ℕ) (n : ℕ) (b : Bool) → cond {A = Option ℕ} b (parameters.one_of_eight (position (λ p. bytes_eq p.name bytes) ps)) None ≡ Some n → n < length ps
+named_within : (ps : List Param) (bytes : List ℕ) (n : ℕ) (b : Bool) → cond {A = Option ℕ} b (position (λ p. bytes_eq p.name bytes) ps) None ≡ Some n → n < length ps
 named_within ps bytes n false e = absurd cc
-named_within ps bytes n true e = go (position (λ p. bytes_eq p.name bytes) ps) refl e
-  where
-    eight : (m : ℕ) (b : Bool) → cond {A = Option ℕ} b (Some m) None ≡ Some n → m ≡ n
-    eight m true f = some_is m n f
-    eight m false f = absurd cc
-
-    go : (o : Option ℕ) → position (λ (p : Param). bytes_eq p.name bytes) ps ≡ o → parameters.one_of_eight o ≡ Some n → n < length ps
-    go None f g = absurd cc
-    go (Some m) f g = let at = position-Some (λ (p : Param). bytes_eq p.name bytes) ps m (record { name = []; sign = sign.Plain }) f in let same = eight m (ltb m 8) g in let lt = at.0 in omega (arith, lt, same)
+named_within ps bytes n true e = let at = position-Some (λ (p : Param). bytes_eq p.name bytes) ps n (record { name = []; sign = sign.Plain }) e in at.0
 
 own_within : (ps : List Param) (q : TokenClass) (bytes : List ℕ) (n : ℕ) → parameters.own_parameter ps q bytes ≡ Some n → n < length ps
 own_within ps class.Number bytes n e = digit_within (length ps) bytes n e

@@ -1,5 +1,5 @@
 -- How the productions that both readers share behave: their causes, and that no name is forgotten.
-use Rattle.std.proofs.Common.{◌≡◌, ℕ, zero, suc, ◌+◌, Bool, true, false, cond, ltb, leb, ◌&&◌, IsTrue, List, length, eqb, position, Option, Some, None, Result, Ok, Err, MatchResult, IfErr, IfSome, ◌++◌, ◌∷◌, [], ◌≤◌, arith, length-append}
+use Rattle.std.proofs.Common.{ℕ, zero, suc, ◌+◌, Bool, true, false, cond, ltb, leb, ◌&&◌, IsTrue, List, length, eqb, position, Option, Some, None, Result, Ok, Err, MatchResult, IfErr, ◌++◌, ◌∷◌, [], arith, length-append}
 use Rattle.std.proofs.lemmas.Bool.{le-leb, leb-true}
 use Rattle.std.specs.Str.{bytes_eq}
 use Rattle.vsd_grammar.specs.declared.token_class.TokenClass.{TokenClass}
@@ -10,7 +10,6 @@ use Rattle.vsd_grammar.specs.declared.cause.Cause.{Cause}
 use Rattle.vsd_grammar.specs.declared.cause.Cause.TheVariants.{Unexpected, TooMany, TooDeep}
 use Rattle.vsd_grammar.specs.declared.cause.Counted.TheVariants as limit
 use Rattle.vsd_grammar.specs.Input.{State, same_class}
-use Rattle.vsd_grammar.specs.Grammar.{G}
 use Rattle.vsd_grammar.specs.Productions.{expected, expect, required, must_see, eaten, eat, with_nodes, no_nodes, node, node_counted, node_at, number_by, number, checked, scan_step, scan, is_name, name_by, spelled_name, then_pass, name, numbered_name, plain_turn, plain_words, digits_from, in_range, number_of, spelled_number}
 use Rattle.vsd_grammar.specs.Skipping.{opening, closing, close_turn, is_outside, skip_turn, skip}
 use Rattle.vsd_grammar.specs.Laws.{Behaves}

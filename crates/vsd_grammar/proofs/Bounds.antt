@@ -5,7 +5,7 @@ use Rattle.vsd_grammar.specs.declared.cause.Cause.{Cause}
 use Rattle.vsd_grammar.specs.declared.cause.Cause.TheVariants.{Unexpected}
 use Rattle.vsd_grammar.specs.declared.token_class.TokenClass.TheVariants as class
 use Rattle.vsd_grammar.specs.Input.{Input, State, Seen, class_at, next, left, is_end, is_comma, class_of, lookahead_of}
-use Rattle.vsd_grammar.specs.Grammar.{G, ret, refuse, refuse_at, lookahead, pass, count, bind, optional, separated, until, Outcome, and_then, counted, tested, tried, surplus, after_item, after_turn, syntax_error, items, turns, run}
+use Rattle.vsd_grammar.specs.Grammar.{G, ret, refuse, refuse_at, lookahead, pass, count, bind, separated, until, Outcome, and_then, counted, tested, tried, surplus, after_item, after_turn, syntax_error, items, turns, run}
 use Rattle.std.specs.List.{slice_get}
 use Rattle.std.proofs.lemmas.Option.{slice_get_within}
 
@@ -93,10 +93,6 @@ within_turns {S} stop step h (suc n) s i = stopped (stop (class_at i) s) _ (with
     stopped true o w = within_here S s i
     stopped false o w = w
 
-within_optional : {A : Type 0} (b : Bool) (i : Input) (o : Outcome A) → Within i o → Within i (cond b (and_then o (λ x k. Ok (Some x, k))) (Ok (None, i)))
-within_optional {A} true i o w = within_then i o _ w (λ x k. within_here (Option A) (Some x) k)
-within_optional {A} false i o w = within_here (Option A) None i
-
 pub within : (A : Type 0) (g : G A) (i : Input) → Within i (run A g i)
 within _ (ret A a) i = within_here A a i
 within _ (refuse A cause) i = within_refusal A i cause
@@ -105,6 +101,5 @@ within _ lookahead i = within_here _ (lookahead_of i) i
 within _ pass i = within_pass i (is_end (class_at i)) refl
 within _ (count A step) i = within_counted i (step i.state)
 within _ (bind A B p f) i = within_then i (run A p i) _ (within A p i) (λ x k. within B (f x) k)
-within _ (optional A begins p) i = within_optional (begins (class_at i)) i (run A p i) (within A p i)
 within _ (separated A first many p room) i = within_items first many (run A p) (within A p) room i
 within _ (until S stop step s) i = within_turns stop (λ t. run S (step t)) (λ t k. within S (step t) k) (suc (left i)) s i

@@ -1,11 +1,11 @@
 -- What is allowed is read.
-use Rattle.std.proofs.Common.{◌≡◌, ℕ, zero, suc, ◌≤◌, ◌<◌, Bool, true, false, ◌||◌, cond, ltb, List, [], ◌∷◌, length, IsTrue, Option, Some, None, Ok, Err, refl, ap, sym, subst, ◌∙◌, arith}
+use Rattle.std.proofs.Common.{◌≡◌, ℕ, zero, suc, ◌≤◌, ◌<◌, Bool, true, false, ◌||◌, cond, ltb, List, [], ◌∷◌, length, IsTrue, Option, None, Ok, Err, refl, ap, sym, subst, ◌∙◌, arith}
 use Rattle.std.proofs.lemmas.Bool.{lt-ltb}
 use Rattle.vsd_grammar.specs.declared.token_class.TokenClass.{TokenClass}
 use Rattle.vsd_grammar.specs.declared.cause.Cause.{Cause}
 use Rattle.vsd_grammar.specs.declared.cause.Cause.TheVariants.{Unexpected}
 use Rattle.vsd_grammar.specs.Input.{Input, class_at, next, left, is_end, is_comma, lookahead_of}
-use Rattle.vsd_grammar.specs.Grammar.{G, ret, refuse, refuse_at, lookahead, pass, count, bind, optional, separated, until, Outcome, and_then, counted, tested, tried, after_item, after_turn, syntax_error, items, turns, run, Items, Turns, Derives, Follows, Decides}
+use Rattle.vsd_grammar.specs.Grammar.{G, ret, refuse, refuse_at, lookahead, pass, count, bind, separated, until, Outcome, and_then, counted, tested, tried, after_item, after_turn, syntax_error, items, turns, run, Items, Turns, Derives, Follows, Decides}
 use Rattle.vsd_grammar.proofs.Bounds.{Within, within}
 use Rattle.vsd_grammar.proofs.Keeping.{within_result, fewer_left}
 
@@ -83,14 +83,6 @@ complete_turns {S} stop step Item M w h onward ends (suc n) (suc fuel) s i t j f
     d.0 (lt-ltb i.at k.at d.4) (ap (λ o. and_then o (λ u m. after_turn (ltb i.at m.at) m (turns stop step fuel u m))) one)
     ∙ others
 
-complete_optional : {A : Type 0} (b : Bool) (i : Input) (o : Outcome A) (x : A) (j : Input) → b ≡ true → o ≡ Ok (x, j) → cond b (and_then o (λ y k. Ok (Some y, k))) (Ok (None, i)) ≡ Ok (Some x, j)
-complete_optional true i o x j e f = ap (λ r. and_then r (λ y k. Ok (Some y, k))) f
-complete_optional false i o x j e f = absurd cc
-
-complete_absent : {A : Type 0} (b : Bool) (i j : Input) (o : Outcome (Option A)) → b ≡ false → i ≡ j → cond b o (Ok (None, i)) ≡ Ok (None, j)
-complete_absent true i j o e f = absurd cc
-complete_absent {A} false i j o e f = ok_same {A = Option A} None None i j refl f
-
 complete_pass : (b : Bool) (i j : Input) (x : Unit {0}) → b ≡ false → next i ≡ j → cond {A = Outcome (Unit {0})} b (Err (syntax_error i Unexpected)) (Ok (tt {0}, next i)) ≡ Ok (x, j)
 complete_pass true i j x e f = absurd cc
 complete_pass false i j x e f = ok_same (tt {0}) x (next i) j refl f
@@ -106,9 +98,6 @@ complete _ (bind A B p f) F i y j c d follow =
     let after = c.2 d.0 in
     let one = complete A p c.0 i d.0 d.1 c.1 d.2 (after.1 d.1 y j d.3 follow) in
     ap (λ o. and_then o (λ x k. run B (f x) k)) one ∙ complete B (f d.0) F d.1 y j after.0 d.3 follow
-complete _ (optional A begins p) F i None j c d f =
-    complete_absent (begins (class_at i)) i j _ (c.1 (class_at i) (subst (λ k. IsTrue (F (class_at k))) (sym d) f)) d
-complete _ (optional A begins p) F i (Some x) j c d f = complete_optional (begins (class_at i)) i (run A p i) x j (c.2 i x j d) (complete A p F i x j c.0 d f)
 complete _ (separated A first many p room) F i xs j c d f =
     complete_items first many (run A p) (Derives A p) F (λ k x m e g. complete A p (λ q. is_comma q || F q) k x m c.0 e g) c.1 c.2 room xs i j d.0 d.1 f
 complete _ (until S stop step s) F i t j c d f =

@@ -1,9 +1,9 @@
 -- What each step of the counts keeps to, the whole of a production keeps to.
-use Rattle.std.proofs.Common.{◌≡◌, ℕ, zero, suc, Bool, List, [], ◌∷◌, IsTrue, Option, Some, None, Result, Ok, Err, MatchResult, ap, subst}
+use Rattle.std.proofs.Common.{◌≡◌, ℕ, zero, suc, Bool, List, [], ◌∷◌, IsTrue, Result, Ok, Err, MatchResult, subst}
 use Rattle.vsd_grammar.specs.declared.token_class.TokenClass.{TokenClass}
 use Rattle.vsd_grammar.specs.declared.cause.Cause.{Cause}
 use Rattle.vsd_grammar.specs.Input.{Input, State, next}
-use Rattle.vsd_grammar.specs.Grammar.{G, ret, refuse, refuse_at, lookahead, pass, count, bind, optional, separated, until, MoreItems, Items, Turns, Derives}
+use Rattle.vsd_grammar.specs.Grammar.{G, ret, refuse, refuse_at, lookahead, pass, count, bind, separated, until, MoreItems, Items, Turns, Derives}
 use Rattle.vsd_grammar.specs.Laws.{Behaves}
 
 module _ (test : Cause → Bool) (keeps : State → State → Bool) (here : (s : State) → IsTrue (keeps s s)) (on : (s t u : State) → IsTrue (keeps s t) → IsTrue (keeps t u) → IsTrue (keeps s u)) where
@@ -38,7 +38,5 @@ module _ (test : Cause → Bool) (keeps : State → State → Bool) (here : (s :
   keeps_to _ pass i x j b d = stays (next i) j d.1
   keeps_to _ (count A step) i x j b d = on i.state d.0 j.state (counted_step i.state (step i.state) x d.0 (b i.state) d.1) (stays (record i { state = d.0 }) j d.2)
   keeps_to _ (bind A B p f) i y j b d = on i.state d.1.state j.state (keeps_to A p i d.0 d.1 b.0 d.2) (keeps_to B (f d.0) d.1 y j (b.1 d.0) d.3)
-  keeps_to _ (optional A begins p) i None j b d = stays i j d
-  keeps_to _ (optional A begins p) i (Some x) j b d = keeps_to A p i x j b d
   keeps_to _ (separated A first many p room) i xs j b d = items_keep (Derives A p) (λ k x m e. keeps_to A p k x m b.0 e) xs i j d.1
   keeps_to _ (until S stop step s) i t j b d = turns_keep stop (λ u. Derives S (step u)) (λ u k v m e. keeps_to S (step u) k v m (b.1 u) e) d.0 s i t j d.1

@@ -7,7 +7,7 @@ use Rattle.vsd_grammar.specs.declared.token_class.TokenClass.{TokenClass}
 use Rattle.vsd_grammar.specs.declared.cause.Cause.{Cause}
 use Rattle.vsd_grammar.specs.declared.cause.Cause.TheVariants.{Unexpected}
 use Rattle.vsd_grammar.specs.Input.{Seen, Input, State, class_of, bytes_of, line_of, class_at, bytes_at, line_at, next, left, is_end, is_comma, lookahead_of}
-use Rattle.vsd_grammar.specs.Grammar.{G, ret, refuse, refuse_at, lookahead, pass, count, bind, optional, separated, until, Outcome, and_then, counted, tested, tried, surplus, after_item, after_turn, syntax_error, items, turns, run}
+use Rattle.vsd_grammar.specs.Grammar.{G, ret, refuse, refuse_at, lookahead, pass, count, bind, separated, until, Outcome, and_then, counted, tested, tried, surplus, after_item, after_turn, syntax_error, items, turns, run}
 use Rattle.vsd_grammar.specs.Laws.{SameUpTo, over}
 use Rattle.vsd_grammar.proofs.Bounds.{reach, Within, within, within_items, within_turns, within_tested, within_after_item, within_after_turn}
 
@@ -160,11 +160,6 @@ keeps _ pass ys i = at_hand ys i (run (Unit {0}) pass i) (λ q. cond (is_end q) 
 keeps _ (count A step) ys i = keeps_counted ys i (step i.state)
 keeps _ (bind A B p f) ys i = keeps_then ys i (run A p i) (run A p (over ys i)) (λ x k. run B (f x) k) (λ x k. run B (f x) k) (within A p i) (keeps A p ys i) (λ x k. within B (f x) k)
     (λ x k e near. keeps B (f x) ys k)
-keeps _ (optional A begins p) ys i =
-    at_hand ys i (run (Option A) (optional A begins p) i) (λ q. cond (begins q) (and_then (run A p (over ys i)) (λ x k. Ok (Some x, k))) (Ok (None, over ys i))) (within (Option A) (optional A begins p) i)
-    (keeps_cond ys i (begins (class_at i)) (and_then (run A p i) (λ x k. Ok (Some x, k))) (Ok (None, i)) (and_then (run A p (over ys i)) (λ x k. Ok (Some x, k))) (Ok (None, over ys i))
-    (keeps_then ys i (run A p i) (run A p (over ys i)) (λ x k. Ok (Some x, k)) (λ x k. Ok (Some x, k)) (within A p i) (keeps A p ys i) (λ x k. within_ok (Option A) (Some x) k) (λ x k e near same. refl))
-    (λ same. refl))
 keeps _ (separated A first many p room) ys i = keeps_items first many (run A p) ys (within A p) (keeps A p ys) room i
 keeps _ (until S stop step s) ys i =
     keeps_turns stop (λ t. run S (step t)) ys (λ t k. within S (step t) k) (λ t k. keeps S (step t) ys k) (suc (left i)) (suc (left (over ys i))) s i (omega arith) (omega arith)

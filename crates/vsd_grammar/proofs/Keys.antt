@@ -1,5 +1,5 @@
 -- The key of a word, found by its slot.
-use Rattle.std.proofs.Common.{◌≡◌, ℕ, Bool, true, false, cond, List, [], ◌∷◌, map, get_or, length, Option, Some, None, nat_le, refl, ap, sym, ◌∙◌, arith, ◌≤◌, ◌<◌, ◌&&◌}
+use Rattle.std.proofs.Common.{◌≡◌, ℕ, Bool, true, false, cond, List, [], ◌∷◌, map, get_or, length, Option, Some, None, nat_le, refl, ap, sym, ◌∙◌, ◌<◌, ◌&&◌}
 use Rattle.std.specs.List.{slice_get}
 use Rattle.std.specs.Option.{option_map}
 use Rattle.std.specs.Str.{bytes_eq}
@@ -9,6 +9,7 @@ use Rattle.std.proofs.lemmas.Option.{slice_get-map, same_Some}
 use Rattle.vsd_grammar.specs.declared.keyword.Keyword.{Keyword}
 use Rattle.vsd_grammar.specs.declared.keyword.Keyword.TheVariants as key
 use Rattle.vsd_grammar.specs.declared.keyword.TheConstants.{SLOTS}
+use Rattle.vsd_grammar.specs.Input.{same_keyword}
 use Rattle.vsd_grammar.specs.Words.{words, lookup, key_by, keyword_of, slot_of}
 
 abbrev all_of : {A : Type 0} → (A → Bool) → List A → Bool
@@ -85,3 +86,36 @@ key_found word = go (slot_entry word) refl
     go : (t : Option (List ℕ × Keyword)) → slot_entry word ≡ t → key_by t word ≡ lookup words word
     go None e = absent (ap (λ t. is_entry t word) e)
     go (Some w) e = found w e (bytes_eq w.0 word) refl
+
+-- ---- no two words have one key
+
+-- the first word of a table that has this key
+abbrev word_in : List (List ℕ × Keyword) → Keyword → Option (List ℕ)
+word_in [] k = None
+word_in (w ∷ ws) k = cond (same_keyword w.1 k) (Some w.0) (word_in ws k)
+
+-- each word is the first that has its key
+first_words : map (λ w. word_in words w.1) words ≡ map (λ w. Some w.0) words
+unfolding words same_keyword
+first_words = refl
+
+-- what holds of each word of a table and its key holds of the word that is looked up
+word_of_key : (word : Keyword → Option (List ℕ)) (ws : List (List ℕ × Keyword)) (a : List ℕ) → map (λ w. word w.1) ws ≡ map (λ w. Some w.0) ws
+    → (lookup ws a ≡ key.Other → ⊥) → word (lookup ws a) ≡ Some a
+word_of_key word [] a all known = absurd (known refl)
+word_of_key word (w ∷ ws) a all known =
+    let here : word w.1 ≡ Some w.0 = cc in
+    let others : map (λ v. word v.1) ws ≡ map (λ v. Some v.0) ws = cc in
+    go here (word_of_key word ws a others) (bytes_eq w.0 a) refl known
+  where
+    go : word w.1 ≡ Some w.0 → ((lookup ws a ≡ key.Other → ⊥) → word (lookup ws a) ≡ Some a) → (b : Bool) → bytes_eq w.0 a ≡ b
+        → (cond b w.1 (lookup ws a) ≡ key.Other → ⊥) → word (cond b w.1 (lookup ws a)) ≡ Some a
+    go here below true f k = here ∙ ap Some ((bytes_eq-Decides w.0 a).0 f)
+    go here below false f k = below k
+
+pub own_words : (a b : List ℕ) → keyword_of a ≡ keyword_of b → (keyword_of a ≡ key.Other → ⊥) → a ≡ b
+unfolding keyword_of
+own_words a b same known =
+    let one = word_of_key (word_in words) words a first_words known in
+    let other = word_of_key (word_in words) words b first_words (λ e. known (same ∙ e)) in
+    same_Some a b (sym one ∙ ap (word_in words) same ∙ other)

@@ -1,5 +1,5 @@
 -- What is passed over is in pairs, and what is in pairs is passed over.
-use Rattle.std.proofs.Common.{◌≡◌, ℕ, zero, suc, ◌+◌, ◌<◌, Bool, true, false, not, ◌&&◌, ◌||◌, cond, List, [], ◌∷◌, ◌++◌, length, IsTrue, eqb, ◌⊎◌, inl, inr, refl, ap, sym, subst, ◌∙◌, append_assoc, add-one, arith}
+use Rattle.std.proofs.Common.{◌≡◌, ℕ, zero, suc, ◌+◌, Bool, true, false, not, ◌&&◌, ◌||◌, cond, List, [], ◌∷◌, ◌++◌, length, IsTrue, ◌⊎◌, inl, inr, refl, ap, sym, subst, ◌∙◌, append_assoc, add-one, arith}
 use Rattle.std.proofs.lemmas.Bool.{eqb-true}
 use Rattle.vsd_grammar.specs.declared.token_class.TokenClass.{TokenClass}
 use Rattle.vsd_grammar.specs.declared.token_class.TokenClass.TheVariants as class
@@ -7,7 +7,7 @@ use Rattle.vsd_grammar.specs.declared.turn.Turn.{Turn}
 use Rattle.vsd_grammar.specs.declared.turn.Turn.TheVariants as turn
 use Rattle.vsd_grammar.specs.declared.cause.Cause.TheVariants.{Unexpected}
 use Rattle.vsd_grammar.specs.Input.{Input, Lookahead, class_at, lookahead_of, next, is_end, same_class}
-use Rattle.vsd_grammar.specs.Grammar.{G, lookahead, bind, Turns, Derives}
+use Rattle.vsd_grammar.specs.Grammar.{lookahead, bind, Turns, Derives}
 use Rattle.vsd_grammar.specs.Productions.{scan, scan_step, is_stop}
 use Rattle.vsd_grammar.specs.Skipping.{Paired, nothing, token, group, opening, closing, spelled, is_plain, ArePlain, Spells, ends_at, IsSkipped, close_turn, is_outside, skip_turn, skip}
 

@@ -1,11 +1,11 @@
 -- What each refusal of a production has, by one walk over the data.
-use Rattle.std.proofs.Common.{◌≡◌, ℕ, zero, suc, ◌≤◌, min, Bool, true, false, cond, ltb, List, [], ◌∷◌, IsTrue, Option, Some, None, Result, Ok, Err, MatchResult, IfSome, refl}
+use Rattle.std.proofs.Common.{ℕ, zero, suc, min, Bool, true, false, cond, ltb, List, ◌∷◌, IsTrue, Option, Some, None, Result, Ok, Err, MatchResult, IfSome, refl}
 use Rattle.vsd_grammar.specs.declared.token_class.TokenClass.{TokenClass}
 use Rattle.vsd_grammar.specs.declared.cause.Cause.{Cause}
 use Rattle.vsd_grammar.specs.declared.cause.Cause.TheVariants.{Unexpected}
 use Rattle.vsd_grammar.specs.declared.syntax_error.SyntaxError.{SyntaxError}
 use Rattle.vsd_grammar.specs.Input.{Input, State, class_at, bytes_at, next, left, is_end, is_comma}
-use Rattle.vsd_grammar.specs.Grammar.{G, ret, refuse, refuse_at, lookahead, pass, count, bind, optional, separated, until, Outcome, and_then, counted, tested, tried, surplus, after_item, after_turn, syntax_error, items, turns, run}
+use Rattle.vsd_grammar.specs.Grammar.{G, ret, refuse, refuse_at, lookahead, pass, count, bind, separated, until, Outcome, and_then, counted, tested, tried, surplus, after_item, after_turn, syntax_error, items, turns, run}
 use Rattle.vsd_grammar.specs.Laws.{CausesPass, Behaves, any_step, any_cause}
 
 -- an outcome that is no refusal, or one of which this holds
@@ -71,8 +71,6 @@ module _ (test : Cause → Bool) (keeps : State → State → Bool) (P : SyntaxE
   holds _ pass i c = holds_cond (is_end (class_at i)) (Err (syntax_error i Unexpected)) (Ok (tt {0}, next i)) (here i Unexpected c) tt
   holds _ (count A step) i c = holds_counted i (step i.state) (c i.state)
   holds _ (bind A B p f) i c = holds_then (run A p i) (λ x k. run B (f x) k) (holds A p i c.0) (λ x k. holds B (f x) k (c.1 x))
-  holds _ (optional A begins p) i c = holds_cond (begins (class_at i)) (and_then (run A p i) (λ x k. Ok (Some x, k))) (Ok (None, i))
-      (holds_then (run A p i) (λ x k. Ok (Some x, k)) (holds A p i c) (λ x k. tt)) tt
   holds _ (separated A first many p room) i c = holds_items first many (run A p) (λ k. holds A p k c.0) c.1 c.2 room i
   holds _ (until S stop step s) i c = holds_turns stop (λ t. run S (step t)) (λ t k. holds S (step t) k (c.1 t)) c.0 (suc (left i)) s i
 
@@ -94,6 +92,5 @@ all_pass _ lookahead = tt
 all_pass _ pass = refl
 all_pass _ (count A step) = λ s. all_counted s (step s)
 all_pass _ (bind A B p f) = (all_pass A p, λ x. all_pass B (f x))
-all_pass _ (optional A begins p) = all_pass A p
 all_pass _ (separated A first many p room) = (all_pass A p, refl, λ q b. all_tested (first q b))
 all_pass _ (until S stop step s) = (refl, λ t. all_pass S (step t))

@@ -1,14 +1,13 @@
 -- What a function that reads a production answers. These serve productions with parameters, where no law's function does.
-use Rattle.std.proofs.Common.{◌≡◌, ◌≤◌, length, Bool, IsTrue, Result, Ok, Err, sym, subst, ◌∙◌, arith}
+use Rattle.std.proofs.Common.{◌≡◌, ◌≤◌, Bool, IsTrue, Result, Ok, Err, sym, subst, ◌∙◌, arith}
 use Rattle.vsd_grammar.specs.declared.token_class.TokenClass.{TokenClass}
-use Rattle.vsd_grammar.specs.declared.cause.Cause.{Cause}
 use Rattle.vsd_grammar.specs.declared.syntax_error.SyntaxError.{SyntaxError}
 use Rattle.vsd_grammar.specs.declared.syntax_error.Stop.{Stop}
 use Rattle.vsd_grammar.specs.declared.syntax_error.Stop.TheVariants as stop
-use Rattle.vsd_grammar.specs.Input.{Input, left}
-use Rattle.vsd_grammar.specs.Grammar.{G, Outcome, run, Derives, Decides}
-use Rattle.vsd_grammar.specs.Productions.{Reads, ReadsBy}
-use Rattle.vsd_grammar.specs.Laws.{Found, Only, Dead, IsReader, CausesPass, any_step, any_cause, KeepsCauses, StandsInList}
+use Rattle.vsd_grammar.specs.Input.{Input}
+use Rattle.vsd_grammar.specs.Grammar.{G, Outcome, run, Decides}
+use Rattle.vsd_grammar.specs.Productions.{ReadsBy}
+use Rattle.vsd_grammar.specs.Laws.{Found, Only, Dead, IsReader, any_step, any_cause, KeepsCauses, StandsInList}
 use Rattle.vsd_grammar.proofs.Outcomes.{ok_parts, err_ok}
 use Rattle.vsd_grammar.proofs.Bounds.{Within, within}
 use Rattle.vsd_grammar.proofs.Soundness.{sound}

@@ -5,7 +5,7 @@ use Rattle.vsd_grammar.specs.declared.token_class.TokenClass.{TokenClass}
 use Rattle.vsd_grammar.specs.declared.cause.Cause.{Cause}
 use Rattle.vsd_grammar.specs.declared.cause.Cause.TheVariants.{Unexpected}
 use Rattle.vsd_grammar.specs.Input.{Input, State, class_at, next, left, is_end, is_comma, lookahead_of}
-use Rattle.vsd_grammar.specs.Grammar.{G, ret, refuse, refuse_at, lookahead, pass, count, bind, optional, separated, until, Outcome, and_then, counted, tested, tried, surplus, after_item, after_turn, syntax_error, items, turns, run, MoreItems, Items, Turns, Derives}
+use Rattle.vsd_grammar.specs.Grammar.{G, ret, refuse, refuse_at, lookahead, pass, count, bind, separated, until, Outcome, and_then, counted, tested, tried, surplus, after_item, after_turn, syntax_error, items, turns, run, MoreItems, Items, Turns, Derives}
 use Rattle.vsd_grammar.proofs.Outcomes.{ok_parts, err_ok, and_then_ok}
 
 sound_pass : (i : Input) (b : Bool) (x : Unit {0}) (j : Input) → is_end (class_at i) ≡ b → cond {A = Outcome (Unit {0})} b (Err (syntax_error i Unexpected)) (Ok (tt {0}, next i)) ≡ Ok (x, j) → Derives (Unit {0}) pass i x j
@@ -18,18 +18,6 @@ sound_count A step i (Ok r) x j s e =
     let p = ok_parts r.0 x (record i { state = r.1 }) j e in
     (r.1, s ∙ ap (λ v. Ok (v, r.1)) p.0, p.1)
 sound_count A step i (Err cause) x j s e = absurd (err_ok (syntax_error i cause) x j e)
-
-sound_optional : (A : Type 0) (begins : TokenClass → Bool) (p : G A) (i : Input) → ((x : A) (j : Input) → run A p i ≡ Ok (x, j) → Derives A p i x j)
-    → (b : Bool) (x : Option A) (j : Input) → cond b (and_then (run A p i) (λ x k. Ok (Some x, k))) (Ok (None, i)) ≡ Ok (x, j) → Derives (Option A) (optional A begins p) i x j
-sound_optional A begins p i h true x j e =
-    let w = and_then_ok (run A p i) (λ x k. Ok (Some x, k)) x j e in
-    let same = ok_parts (Some w.0) x w.1 j w.3 in
-    let D : Option A → Input → Type 0 = λ v m. Derives (Option A) (optional A begins p) i v m in
-    subst (λ v. D v j) same.0 (subst (λ m. D (Some w.0) m) same.1 (h w.0 w.1 w.2))
-sound_optional A begins p i h false x j e =
-    let same = ok_parts None x i j e in
-    let D : Option A → Type 0 = λ v. Derives (Option A) (optional A begins p) i v j in
-    subst D same.0 same.1
 
 -- items after a comma are more items
 more_from : {A : Type 0} (Item : Input → A → Input → Type 0) (xs : List A) (i j : Input) → is_comma (class_at i) ≡ true → Items Item xs (next i) j → MoreItems Item xs i j
@@ -102,7 +90,6 @@ sound _ (count A step) i x j e = sound_count A step i (step i.state) x j refl e
 sound _ (bind A B p f) i y j e =
     let w = and_then_ok (run A p i) (λ x k. run B (f x) k) y j e in
     (w.0, w.1, sound A p i w.0 w.1 w.2, sound B (f w.0) w.1 y j w.3)
-sound _ (optional A begins p) i x j e = sound_optional A begins p i (sound A p i) (begins (class_at i)) x j e
 sound _ (separated A first many p room) i xs j e = sound_items first many (run A p) (Derives A p) (sound A p) room i xs j e
 sound _ (until S stop step s) i t j e =
     sound_turns stop (λ u. run S (step u)) (λ u. Derives S (step u)) (λ u. sound S (step u)) (suc (left i)) s i t j e

@@ -1,5 +1,5 @@
 -- A name that is read has bytes.
-use Rattle.std.proofs.Common.{◌≡◌, Bool, true, false, cond, List, ℕ, length, eqb, Result, Ok, Err, refl, ap, ◌∙◌}
+use Rattle.std.proofs.Common.{◌≡◌, Bool, true, false, cond, List, ℕ, length, eqb, Result, Err, refl, ap, ◌∙◌}
 use Rattle.vsd_grammar.specs.declared.cause.Cause.{Cause}
 use Rattle.vsd_grammar.specs.declared.cause.Cause.TheVariants.{Unexpected}
 use Rattle.vsd_grammar.specs.Input.{Input, class_at, bytes_at}

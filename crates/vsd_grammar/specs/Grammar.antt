@@ -22,8 +22,6 @@ pub data G : Type 0 → Type 1 where
   count : (A : Type 0) → (State → Result (A × State) Cause) → G A
   -- one production, and then one that may depend on its value
   bind : (A B : Type 0) → G A → (A → G B) → G B
-  -- [ p ], where the test says of a token whether it begins p
-  optional : (A : Type 0) → (TokenClass → Bool) → G A → G (Option A)
   -- p { "," p }, at most so many. The test says with what cause a token of this class, with these bytes, is refused
   -- that can't begin p, and the cause after it is that of one too many.
   separated : (A : Type 0) → (TokenClass → List ℕ → Option Cause) → Cause → G A → ℕ → G (List A)
@@ -88,7 +86,6 @@ run _ lookahead i = Ok (lookahead_of i, i)
 run _ pass i = if is_end (class_at i) then Err (syntax_error i Unexpected) else Ok (tt, next i)
 run _ (count A step) i = counted i (step i.state)
 run _ (bind A B p f) i = and_then (run A p i) (λ x k. run B (f x) k)
-run _ (optional A begins p) i = if begins (class_at i) then and_then (run A p i) (λ x k. Ok (Some x, k)) else Ok (None, i)
 run _ (separated A first many p room) i = items first many (run A p) room i
 run _ (until S stop step s) i = turns stop (λ t. run S (step t)) (suc (left i)) s i
 
@@ -119,8 +116,6 @@ Derives _ lookahead i x j = (lookahead_of i ≡ x) × (i ≡ j)
 Derives _ pass i x j = (is_end (class_at i) ≡ false) × (next i ≡ j)
 Derives _ (count A step) i x j = (s : State) × (step i.state ≡ Ok (x, s)) × (record i { state = s } ≡ j)
 Derives _ (bind A B p f) i y j = (x : A) × (k : Input) × Derives A p i x k × Derives B (f x) k y j
-Derives _ (optional A begins p) i None j = i ≡ j
-Derives _ (optional A begins p) i (Some x) j = Derives A p i x j
 Derives _ (separated A first many p room) i xs j = (length xs ≤ room) × Items (Derives A p) xs i j
 Derives _ (until S stop step s) i t j = (n : ℕ) × Turns stop (λ u. Derives S (step u)) n s i t j
 
@@ -137,8 +132,6 @@ Decides _ lookahead F = Unit {0}
 Decides _ pass F = Unit {0}
 Decides _ (count A step) F = Unit {0}
 Decides _ (bind A B p f) F = (M : TokenClass → Bool) × Decides A p M × ((x : A) → Decides B (f x) F × Follows (Derives B (f x)) F M)
-Decides _ (optional A begins p) F = Decides A p F × ((q : TokenClass) → IsTrue (F q) → begins q ≡ false)
-    × ((i : Input) (x : A) (j : Input) → Derives A p i x j → IsTrue (begins (class_at i)))
 Decides _ (separated A first many p room) F = Decides A p (λ q. is_comma q || F q) × ((q : TokenClass) → IsTrue (F q) → is_comma q ≡ false)
     × ((i : Input) (x : A) (j : Input) → Derives A p i x j → tried first i ≡ None)
 Decides _ (until S stop step s) F = (M : TokenClass → Bool)

@@ -1,5 +1,5 @@
 -- The laws that hold of every grammar.
-use Rattle.std.specs.Prelude.{◌≡◌, ℕ, ◌+◌, ◌≤◌, Bool, true, IsTrue, List, length, Option, Result, Ok, Err, IfOk, MatchResult, IfSome, slice_get}
+use Rattle.std.specs.Prelude.{◌≡◌, ℕ, ◌+◌, ◌≤◌, Bool, true, IsTrue, List, length, Result, Ok, Err, IfOk, MatchResult, IfSome, slice_get}
 use Rattle.vsd_grammar.specs.declared.token_class.TokenClass.{TokenClass}
 use Rattle.vsd_grammar.specs.declared.cause.Cause.{Cause}
 use Rattle.vsd_grammar.specs.declared.cause.Cause.TheVariants.{Unexpected}
@@ -7,7 +7,7 @@ use Rattle.vsd_grammar.specs.declared.syntax_error.SyntaxError.{SyntaxError}
 use Rattle.vsd_grammar.specs.declared.syntax_error.Stop.{Stop}
 use Rattle.vsd_grammar.specs.declared.syntax_error.Stop.TheVariants as stop
 use Rattle.vsd_grammar.specs.Input.{Seen, Input, State, class_at, left}
-use Rattle.vsd_grammar.specs.Grammar.{G, ret, refuse, refuse_at, lookahead, pass, count, bind, optional, separated, until, run, Derives}
+use Rattle.vsd_grammar.specs.Grammar.{G, ret, refuse, refuse_at, lookahead, pass, count, bind, separated, until, run, Derives}
 use Rattle.vsd_grammar.specs.Productions.{Reads}
 
 -- the two lists have the same tokens up to and with this index, or the same end
@@ -49,7 +49,6 @@ Behaves test keeps _ lookahead = Unit {0}
 Behaves test keeps _ pass = IsTrue (test Unexpected)
 Behaves test keeps _ (count A step) = (s : State) → MatchResult (step s) (λ r. IsTrue (keeps s r.1)) (λ cause. IsTrue (test cause))
 Behaves test keeps _ (bind A B p f) = Behaves test keeps A p × ((x : A) → Behaves test keeps B (f x))
-Behaves test keeps _ (optional A begins p) = Behaves test keeps A p
 Behaves test keeps _ (separated A first many p room) =
     Behaves test keeps A p × IsTrue (test many) × ((q : TokenClass) (b : List ℕ) → IfSome (first q b) (λ cause. IsTrue (test cause)))
 Behaves test keeps _ (until S stop step s) = IsTrue (test Unexpected) × ((t : S) → Behaves test keeps S (step t))

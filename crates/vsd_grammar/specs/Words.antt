@@ -127,9 +127,13 @@ slot_of word = (101 * length word + 424 * slice_index word 0 + 191 * slice_index
 unfoldable pub keyword_of : List ℕ → Keyword
 keyword_of word = lookup words word
 
--- each word has its own key
+-- each word has its key
 abbrev pub WordsHaveKeys : Type 0
 WordsHaveKeys = map (λ w. keyword_of w.0) words ≡ map (λ w. w.1) words
+
+-- words that differ have keys that differ, unless the grammar has neither
+abbrev pub KeysAreOwn : Type 0
+KeysAreOwn = (a b : List ℕ) → keyword_of a ≡ keyword_of b → (keyword_of a ≡ key.Other → ⊥) → a ≡ b
 
 abbrev pub begins_with_point : List ℕ → Bool
 begins_with_point [] = false

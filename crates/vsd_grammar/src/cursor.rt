@@ -111,7 +111,7 @@ impl<'a> Cursor<'a> {
         ensures value { result ≡ left self.now }
         ensures small { result ≤ most_tokens }
     {
-        self.tokens.len().saturating_sub(self.at)
+        self.tokens.len() - self.at
     }
 
     /// The refusal of the token at hand, for this cause.
@@ -145,10 +145,8 @@ impl<'a> Cursor<'a> {
         requires { is_end (class_at self.old) ≡ false }
         ensures { self.new ≡ next self.old }
     {
-        if self.at < self.tokens.len() {
-            self.at += 1;
-            self.class = class_in(self.text, self.tokens, self.at);
-        }
+        self.at += 1;
+        self.class = class_in(self.text, self.tokens, self.at);
     }
 
     /// Passes over the token at hand, whatever it is.

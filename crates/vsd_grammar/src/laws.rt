@@ -1,15 +1,16 @@
 //! The laws that hold of every grammar. Each is a function that does nothing and ensures its law.
 ghost use Rattle.vsd_grammar.specs.Grammar.{G, Decides};
 ghost use Rattle.vsd_grammar.specs.Productions.{name, numbered_name, plain_words, spelled_number};
-ghost use Rattle.vsd_grammar.specs.Words.{WordsHaveKeys};
+ghost use Rattle.vsd_grammar.specs.Words.{WordsHaveKeys, KeysAreOwn};
 ghost use Rattle.vsd_grammar.specs.Skipping.{SkipsPairs, skip};
 ghost use Rattle.vsd_grammar.specs.Laws.{IsSound, IsComplete, KeepsReading, KeepsRefusal, KeepsCauses, KeepsCounts, StandsInList, IsReader, GoesForward, IsDead, IsUnambiguous};
 ghost use Rattle.vsd_grammar.specs.declared.token_class.TokenClass.{TokenClass};
 ghost use Rattle.std.specs.Prelude.{ℕ, Bool};
 
-/// Each word of the grammar has its own key.
+/// Each word of the grammar has its key, and no other word has that.
 pub fn words_have_keys()
-    ensures { WordsHaveKeys }
+    ensures each { WordsHaveKeys }
+    ensures own { KeysAreOwn }
 {}
 
 /// Names, plain words, numbers and what is passed over are read in one way, whatever follows them.
@@ -40,7 +41,7 @@ pub fn sound<P: Production>()
     ensures { IsSound P.Value P.production }
 {}
 
-/// What is allowed is read, if an optional part and what may follow it begin differently.
+/// What is allowed is read, if what may follow a list never goes on with it, and its tests turn no item away.
 pub fn complete<P: Production>()
     ensures { Decides P.Value P.production P.follow → IsComplete P.Value P.production P.follow }
 {}

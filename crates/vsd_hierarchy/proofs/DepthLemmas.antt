@@ -59,17 +59,17 @@ among-greatest f (t ∷ ts) j w = by w.0 w.1 w.2 (among-greatest f ts j)
 
 module _ (ds : List Decl) (depths : List ℕ) (are : AreDepths ds depths) where
   -- a step upward leads to a lower depth
-  falls : (i j : ℕ) → Contains (targets (graph_of ds followed) i) j → get_or depths j 0 < get_or depths i 0
+  falls : (i j : ℕ) → Contains (targets (graph_of ds (followed ds)) i) j → get_or depths j 0 < get_or depths i 0
   falls i j w =
-      let e = edge_from ds followed i j w in
+      let e = edge_from ds (followed ds) i j w in
       let up = followed_above ds e.declaration j e.leads in
       let below = among-greatest (λ k. get_or depths k 0) (places_of ds (above e.declaration)) j up in
       omega (arith, are.each i e.declaration e.there, greatest_is ds depths are.count (above e.declaration), below)
 
-  walked : (k i j : ℕ) → Walk (graph_of ds followed) k i j → get_or depths j 0 + k ≤ get_or depths i 0
+  walked : (k i j : ℕ) → Walk (graph_of ds (followed ds)) k i j → get_or depths j 0 + k ≤ get_or depths i 0
   walked zero i j walk = omega (arith, ap (λ n. get_or depths n 0) walk)
   walked (suc k) i j walk = omega (arith, falls i walk.0 walk.1, walked k walk.0 j walk.2)
 
   -- so no declaration reaches itself
-  pub no_return : (i : ℕ) → ReachesItself (graph_of ds followed) i → ⊥
+  pub no_return : (i : ℕ) → ReachesItself (graph_of ds (followed ds)) i → ⊥
   no_return i r = omega (arith, walked (suc r.0) i i r.1)

@@ -1,6 +1,6 @@
 -- The steps of the graphs of declarations.
 use Rattle.std.proofs.Common.{◌≡◌, ℕ, ◌<◌, ◌≤◌, zero, suc, Bool, true, false, cond, List, [], ◌∷◌, ◌++◌, length, get_or, Option, Some, None, ◌⊎◌, inl, inr, refl, sym, ap, ◌∙◌, subst, arith, Contains}
-use Rattle.std.specs.List.{slice_get, filter_map, cons_option}
+use Rattle.std.specs.List.{slice_get, filter, filter_map, cons_option}
 use Rattle.std.proofs.lemmas.Bool.{cases_lt}
 use Rattle.std.proofs.lemmas.List.{length-map, get_or_past}
 use Rattle.std.proofs.lemmas.List.Elements.{filter_map-append, Contains-append_left, Contains-append_right, Contains-append_cases}
@@ -12,7 +12,7 @@ use Rattle.vsd_ast.specs.Hierarchy.{above, base_terms}
 use Rattle.vsd_ast.specs.Lookup.{Head, named, parameter, built_in, head_of}
 use Rattle.vsd_graph.specs.Graph.{targets, IsClosed}
 use Rattle.vsd_lawful.proofs.IndexLemmas.{IsPlaceOf, place_from-Some}
-use Rattle.vsd_hierarchy.specs.Cycles.{followed, interface_terms, place_named, places_of, graph_of}
+use Rattle.vsd_hierarchy.specs.Cycles.{followed, interface_terms, named_by, is_interface, is_class, required, base_class, place_named, places_of, graph_of}
 
 later : {A : Type 0} → (t : A) (ts : List A) (x : A) → Contains ts x → Contains (t ∷ ts) x
 later t ts x w = (suc w.0, omega (arith, w.1), w.2)
@@ -37,6 +37,19 @@ filter_map-from {X} f (x ∷ xs) y w = by (f x) refl w (filter_map-from f xs y)
     by : (o : Option ℕ) → f x ≡ o → Contains (cons_option o (filter_map f xs)) y → (Contains (filter_map f xs) y → FromOne f xs y) → FromOne f (x ∷ xs) y
     by None is v more = rest (more v)
     by (Some z) is v more = found z v.0 is v.1 v.2 more
+
+beside : (o : Option ℕ) (js : List ℕ) {j : ℕ} → Contains js j → Contains (cons_option o js) j
+beside None js w = w
+beside (Some z) js {j} w = later z js j w
+
+-- where what follows is among other places, so is the whole beside the same first one
+from_either : (o : Option ℕ) (few many : List ℕ) {j : ℕ} → Contains (cons_option o few) j → (Contains few j → Contains many j) → Contains (cons_option o many) j
+from_either None few many w more = more w
+from_either (Some z) few many {j} w more = by w.0 w.1 w.2
+  where
+    by : (k : ℕ) → k < length (z ∷ few) → get_or (z ∷ few) k j ≡ j → Contains (z ∷ many) j
+    by zero within is = (0, omega arith, is)
+    by (suc k) within is = later z many j (more (k, omega (arith, within), is))
 
 module _ (ds : List Decl) where
   -- the declaration that a head names stands at this place
@@ -99,13 +112,41 @@ module _ (ds : List Decl) where
   places_of-append : (xs ys : List Term) → places_of ds (xs ++ ys) ≡ places_of ds xs ++ places_of ds ys
   places_of-append xs ys = filter_map-append (λ t. place_named ds (head_of t)) xs ys
 
+  -- what the terms that pass a test lead to, the terms lead to
+  filtered_among : (test : Term → Bool) (ts : List Term) (j : ℕ) → Contains (places_of ds (filter test ts)) j → Contains (places_of ds ts) j
+  filtered_among test [] j w = w
+  filtered_among test (t ∷ ts) j w = by (test t) w (filtered_among test ts j)
+    where
+      by : (b : Bool) → Contains (places_of ds (cond b (t ∷ filter test ts) (filter test ts))) j → (Contains (places_of ds (filter test ts)) j → Contains (places_of ds ts) j) → Contains (places_of ds (t ∷ ts)) j
+      by true v more = from_either (place_named ds (head_of t)) (places_of ds (filter test ts)) (places_of ds ts) v more
+      by false v more = beside (place_named ds (head_of t)) (places_of ds ts) (more v)
+
+  -- what the terms lead to, those that pass a test lead to, where each term of that place passes it
+  pub filtered_still : (test : Term → Bool) (ts : List Term) (j : ℕ) → ((t : Term) → place_named ds (head_of t) ≡ Some j → test t ≡ true) → Contains (places_of ds ts) j → Contains (places_of ds (filter test ts)) j
+  filtered_still test [] j passes w = w
+  filtered_still test (t ∷ ts) j passes w = by (place_named ds (head_of t)) refl w (filtered_still test ts j passes)
+    where
+      kept : Contains (places_of ds (filter test ts)) j → (b : Bool) → Contains (places_of ds (cond b (t ∷ filter test ts) (filter test ts))) j
+      kept v true = beside (place_named ds (head_of t)) (places_of ds (filter test ts)) v
+      kept v false = v
+
+      by : (o : Option ℕ) → place_named ds (head_of t) ≡ o → Contains (cons_option o (places_of ds ts)) j → (Contains (places_of ds ts) j → Contains (places_of ds (filter test ts)) j) → Contains (places_of ds (cond (test t) (t ∷ filter test ts) (filter test ts))) j
+      by None is v more = kept (more v) (test t)
+      by (Some z) is v more = found z v.0 is v.1 v.2 more
+        where
+          found : (z k : ℕ) → place_named ds (head_of t) ≡ Some z → k < length (z ∷ places_of ds ts) → get_or (z ∷ places_of ds ts) k j ≡ j → (Contains (places_of ds ts) j → Contains (places_of ds (filter test ts)) j) → Contains (places_of ds (cond (test t) (t ∷ filter test ts) (filter test ts))) j
+          found z zero is within here more =
+              let passed = passes t (is ∙ ap Some here) in
+              subst (λ (b : Bool). Contains (places_of ds (cond b (t ∷ filter test ts) (filter test ts))) j) (sym passed) (subst (λ (o : Option ℕ). Contains (cons_option o (places_of ds (filter test ts))) j) (sym (is ∙ ap Some here)) (0, omega arith, refl))
+          found z (suc k) is within here more = kept (more (k, omega (arith, within), here)) (test t)
+
   -- what one follows from a declaration is among what it names above itself
-  pub followed_above : (x : Decl) (j : ℕ) → Contains (places_of ds (followed x)) j → Contains (places_of ds (above x)) j
+  pub followed_above : (x : Decl) (j : ℕ) → Contains (places_of ds (followed ds x)) j → Contains (places_of ds (above x)) j
   followed_above x j w = subst (λ (xs : List ℕ). Contains xs j) (sym (places_of-append (base_terms x.base) (interface_terms x.interfaces))) (by x.is_interface w)
     where
-      by : (b : Bool) → Contains (places_of ds (cond b (interface_terms x.interfaces) (base_terms x.base))) j → Contains (places_of ds (base_terms x.base) ++ places_of ds (interface_terms x.interfaces)) j
-      by true v = Contains-append_right (places_of ds (base_terms x.base)) (places_of ds (interface_terms x.interfaces)) j v
-      by false v = Contains-append_left (places_of ds (base_terms x.base)) (places_of ds (interface_terms x.interfaces)) j v
+      by : (b : Bool) → Contains (places_of ds (cond b (required ds x.interfaces) (base_class ds x.base))) j → Contains (places_of ds (base_terms x.base) ++ places_of ds (interface_terms x.interfaces)) j
+      by true v = Contains-append_right (places_of ds (base_terms x.base)) (places_of ds (interface_terms x.interfaces)) j (filtered_among (λ t. is_interface (named_by ds (head_of t))) (interface_terms x.interfaces) j v)
+      by false v = Contains-append_left (places_of ds (base_terms x.base)) (places_of ds (interface_terms x.interfaces)) j (filtered_among (λ t. is_class (named_by ds (head_of t))) (base_terms x.base) j v)
 
   -- what stands above a declaration is its base or an interface
   pub above_cases : (x : Decl) (j : ℕ) → Contains (places_of ds (above x)) j → Contains (places_of ds (base_terms x.base)) j ⊎ Contains (places_of ds (interface_terms x.interfaces)) j

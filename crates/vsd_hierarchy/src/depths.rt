@@ -43,7 +43,7 @@ fn look(
     decl: &Decl,
     found: Option<u32>,
 ) -> Result<Option<u32>, AllocError>
-    requires graph { graph.now ≡ graph_of scope.now.list.now followed }
+    requires graph { graph.now ≡ graph_of scope.now.list.now (followed scope.now.list.now) }
     requires there { slice_get scope.now.list.now place ≡ Some decl.now }
     requires least { IsLeast (AtSome scope.now.list.now (Until place (ShowsCycle scope.now.list.now))) found }
     ensures { IfOk result
@@ -67,8 +67,9 @@ fn search(alloc: Global, scope: &Scope) -> Result<Option<u32>, AllocError>
     Ok(found)
 }
 
-/// The first line of a class that reaches itself by bases, or of an interface that does by the interfaces that it requires.
-/// Where depths are there, none does. The error is want of memory.
+/// The first line of a class that reaches itself by bases, each a class, or of an interface that does by the interfaces that
+/// it requires, each an interface (II.22.37, II.22.23). Where depths are there, none does. Where none are, a walk may still
+/// change kind on its way back: then what changes it is a bad base or a bad interface. The error is want of memory.
 pub fn first_cycle(
     alloc: Global,
     scope: &Scope,

@@ -5,6 +5,7 @@ pub mod Selection
 pub mod Value
 pub mod BitList
 pub mod Tables
+pub mod Worlds
 pub mod Refusals
 pub mod Places
 pub mod Numbering

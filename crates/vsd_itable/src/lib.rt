@@ -18,8 +18,10 @@ mod selecting;
 mod tables;
 mod target;
 mod targets;
+mod world;
 
 pub use error::BuildError;
 pub use laws::{interfaces_upward_law, selection_law};
 pub use tables::Tables;
 pub use target::Target;
+pub use world::{World, world_is_shared};

@@ -8,6 +8,7 @@ ghost use Rattle.vsd_types.specs.Types.{type_at};
 ghost use Rattle.vsd_rule.specs.Lists.{entry};
 ghost use Rattle.vsd_itable.specs.Refusals.{IsRefused};
 ghost use Rattle.vsd_itable.specs.Tables.{AreTables, IsTargetOf, IsToken, cmp_of, number_of, numbered_text, sel_of, slot_text, tokens_count, types_count};
+ghost use Rattle.vsd_itable.specs.Worlds.{IsWorldOf};
 
 use crate::error::BuildError;
 use crate::filling::fill_targets;
@@ -16,6 +17,7 @@ use crate::refusing::refusal;
 use crate::selecting::Parts;
 use crate::target::Target;
 use crate::targets::Targets;
+use crate::world::World;
 use std::alloc::{AllocError, Global};
 use std::marker::Model;
 use vsd_check::Checked;
@@ -129,6 +131,21 @@ impl Tables {
         ensures compatible { IsTrue result ↔ IsCompatible self.now.closed.decls.list (type_at self.now.closed.types t) (type_at self.now.closed.types u) }
     {
         self.variances.compatible(&self.closed, t, u)
+    }
+
+    /// The answers alone, in memory of their own: the same types and tokens with the same answers. Threads can share them,
+    /// as they can't share tables, whose terms lead back to themselves. The error is want of memory.
+    pub fn world(&self, alloc: Global) -> Result<World, AllocError>
+        ensures { IfOk result (IsWorldOf self.now) }
+    {
+        let targets = self.targets.copy(alloc)?;
+        let variances = self.variances.copy(alloc)?;
+        Ok(World {
+            types: self.closed.count(),
+            tokens: self.tokens.len(),
+            targets,
+            variances,
+        })
     }
 
     /// The closed list. Takes no memory.

@@ -56,11 +56,11 @@ without_numbers (l ∷ ls) v = go (without_numbers ls v) (eqb l.variable v)
 
 -- ---- what a test that found nothing says
 
-shown_ok : (at : ℕ) (c : Option Cause) → shown at c ≡ Ok tt → c ≡ None
+pub shown_ok : (at : ℕ) (c : Option Cause) → shown at c ≡ Ok tt → c ≡ None
 shown_ok at None e = refl
 shown_ok at (Some cause) e = absurd cc
 
-fresh_ok : (live : List Live) (v : ℕ) → fresh live v ≡ None → (find live v ≡ None) × (length live < 32)
+pub fresh_ok : (live : List Live) (v : ℕ) → fresh live v ≡ None → (find live v ≡ None) × (length live < 32)
 fresh_ok live v e = go (find live v) refl e
   where
     room : (b : Bool) → ltb (length live) 32 ≡ b → ◌≡◌ {A = Option Cause} (cond b None (Some TooManyLive)) None → length live < 32
@@ -118,7 +118,7 @@ numbers_after (kind.Call word site at o) live = refl
 numbers_after (kind.Cast word at s target_at t) live = refl
 
 -- what an operation that was made says
-once_ok : (room : ℕ) (w : Written) (s t : Running) → once room w s ≡ Ok t → (length s.ops < room) × (allowed w s.live ≡ Ok tt) × (does w s ≡ t)
+pub once_ok : (room : ℕ) (w : Written) (s t : Running) → once room w s ≡ Ok t → (length s.ops < room) × (allowed w s.live ≡ Ok tt) × (does w s ≡ t)
 unfolding once
 once_ok room w s t e = go (ltb (length s.ops) room) refl (allowed w s.live) refl e
   where
@@ -129,7 +129,7 @@ once_ok room w s t e = go (ltb (length s.ops) room) refl (allowed w s.live) refl
     go true f (Err r) g e = absurd cc
     go true f (Ok x) g e = (ltb-true (length s.ops) room f, g, cc)
 
-then_makes : (room : ℕ) (ws : List Written) (o : Result Running Refusal) (t : Running) → and_then o (makes room ws) ≡ Ok t → (u : Running) × (o ≡ Ok u) × (makes room ws u ≡ Ok t)
+pub then_makes : (room : ℕ) (ws : List Written) (o : Result Running Refusal) (t : Running) → and_then o (makes room ws) ≡ Ok t → (u : Running) × (o ≡ Ok u) × (makes room ws u ≡ Ok t)
 then_makes room ws (Ok u) t e = (u, refl, e)
 then_makes room ws (Err r) t e = absurd cc
 

@@ -78,7 +78,7 @@ decides_object_name e s r F = (
   ),
 )
 
-decides_site_name : (e : Setting) (F : TokenClass → Bool) → Decides ℕ (names.site_name e) F
+pub decides_site_name : (e : Setting) (F : TokenClass → Bool) → Decides ℕ (names.site_name e) F
 unfolding names.site_name
 decides_site_name e F = (
   anything,

@@ -8,3 +8,7 @@ pub mod AllowedLemmas
 pub mod RootLemmas
 pub mod RangeLemmas
 pub mod Refusing
+pub mod NamingLemmas
+pub mod Telling
+pub mod ObjectLemmas
+pub mod FirstReadings

@@ -3,7 +3,7 @@ use Rattle.std.proofs.Common.{◌≡◌, ℕ, zero, suc, ◌+◌, ◌-◌, ◌<�
 use Rattle.std.specs.Str.{bytes_eq}
 use Rattle.std.proofs.lemmas.Bool.{eqb-false, ltb-false}
 use Rattle.std.proofs.lemmas.List.{append-nil, map-append, length-map, length_push, length-append}
-use Rattle.std.proofs.lemmas.List.Elements.{All-nil, All-cons, All-append}
+use Rattle.std.proofs.lemmas.List.Elements.{All-nil, All-cons, All-append, All-weaker}
 use Rattle.std.proofs.lemmas.List.Quantifiers.{position-Some}
 use Rattle.vsd_terms.specs.declared.term.Term.{Term}
 use Rattle.vsd_ast.specs.WellFormed.{IsName}
@@ -36,14 +36,17 @@ use Rattle.vsd_lanes.specs.declared.repeats.Verb.TheVariants as verb
 use Rattle.vsd_lanes.specs.Setting.{Setting, place_from, numbered, host_number, site_number}
 use Rattle.vsd_lanes.specs.Variables.{number_or, number_in, added_by, added}
 use Rattle.vsd_lanes.specs.Types.{IsRoot, is_concrete}
-use Rattle.vsd_lanes.specs.Meaning.{known, times_of, joined, written_of, op_of}
+use Rattle.vsd_lanes.specs.Meaning.{known, fresh, times_of, joined, written_of, op_of}
 use Rattle.vsd_lanes.specs.Names as names
 use Rattle.vsd_lanes.specs.Productions as spec
 use Rattle.vsd_lanes.specs.Laws.{written_out}
 use Rattle.vsd_lanes.specs.Allowed.{Adds, HasNames, AddsRoots}
+use Rattle.vsd_lanes.specs.Naming.{NamesApart, NamesNoHost, IsNoHost}
 use Rattle.vsd_lanes.proofs.Making.{written_of-Once, written_of-Repeat}
-use Rattle.vsd_lanes.proofs.Meant.{checked_ok, if_none_ok, joined-push}
+use Rattle.vsd_lanes.proofs.Meant.{shows_none, checked_ok, if_none_ok, joined-push}
 use Rattle.vsd_lanes.proofs.RootLemmas.{written_root}
+use Rattle.vsd_lanes.proofs.NamingLemmas.{place_within, AreNamed, none_named, added_named, no_host_named}
+use Rattle.vsd_lanes.proofs.Telling.{new_root, Tells, AllTell, IsCalled, tell_append, tell_times, tell_later, concrete_called}
 
 -- ---- operations in range
 
@@ -125,15 +128,6 @@ spelled_is_name i bytes j d = go (is_name d.0.class) d.0.bytes (checked_ok (List
     go false b h = absurd cc
     go true b h = tests b (eqb (length b) 0) (ltb 255 (length b)) refl refl h
 
-place_within : (first : ℕ) (xs : List (List ℕ)) (name : List ℕ) (n : ℕ) → place_from first xs name ≡ Some n → n < first + length xs
-unfolding place_from
-place_within first [] name n e = absurd cc
-place_within first (x ∷ xs) name n e = go (place_within (first + 1) xs name n) (bytes_eq x name) e
-  where
-    go : (place_from (first + 1) xs name ≡ Some n → n < first + 1 + length xs) → (b : Bool) → cond b (Some first) (place_from (first + 1) xs name) ≡ Some n → n < first + suc (length xs)
-    go rest true h = let same : first ≡ n = cc in omega (arith, same)
-    go rest false h = let k = rest h in omega (arith, k)
-
 numbered_some : (o : Option ℕ) (n : ℕ) → numbered o ≡ Some n → o ≡ Some n
 numbered_some None n e = absurd cc
 numbered_some (Some m) n e = go (ltb m 65536) e
@@ -173,6 +167,17 @@ module _ (e : Setting) where
 
   abbrev SeesVar : Reading → Var → Type 0
   SeesVar s o = IsVar (length s.roots) (length e.sites) (length e.hosts) (length s.variables) o
+
+  host_free : (host : Option ℕ) (c : Option Cause) → names.fresh_cause_by host c ≡ None → host ≡ None
+  host_free (Some h) c g = absurd cc
+  host_free None c g = refl
+
+  fresh_named : (s : Reading) (i : Input) (f : Fresh) (j : Input) → Derives Fresh (names.fresh_name e s) i f j → AreNamed e.hosts s.variables → AreNamed e.hosts f.lane.variables
+  unfolding names.fresh_name
+  fresh_named s i f j d h =
+      let name = d.3.0 in
+      let free = host_free (host_number e.hosts name) (fresh s.running.live (number_in s.variables name)) (shows_none (names.fresh_cause e s name) d.3.1 d.3.3.0 d.3.3.1 d.3.3.2) in
+      subst (λ (g : Fresh). AreNamed e.hosts g.lane.variables) d.3.3.3.3.0 (added_named e.hosts s.variables name free h)
 
   fresh_lane : (s : Reading) (i : Input) (f : Fresh) (j : Input) → Derives Fresh (names.fresh_name e s) i f j
       → (f.lane.roots ≡ s.roots) × Adds IsName s.variables f.lane.variables × (f.variable < length f.lane.variables)
@@ -215,6 +220,21 @@ module _ (e : Setting) where
       let ok = meant_within s (host_number e.hosts name) (position (bytes_eq name) s.variables) v (host_within e.hosts name) (variable_within s.variables name) meant in
       subst (λ (p : Object). SeesVar s p.object) d.3.3.3.3.0 ok
 
+  object_by_called : (s : Reading) (m : Option Var) (o : Var) → names.object_by e s role.Call m ≡ Ok o → IsCalled e.decls.list e.hosts s.roots o
+  object_by_called s None o h = absurd cc
+  object_by_called s (Some (var.Host n)) o h =
+      let both = if_none_ok (var.Host n) o (names.host_cause e s role.Call n) h in
+      subst (IsCalled e.decls.list e.hosts s.roots) both.1 (concrete_called e.decls.list e.hosts s.roots n both.0)
+  object_by_called s (Some (var.Own v)) o h = subst (IsCalled e.decls.list e.hosts s.roots) (if_none_ok (var.Own v) o (names.live_cause s.running role.Call (var.Own v)) h).1 tt
+
+  object_called : (s : Reading) (i : Input) (o : Object) (j : Input) → Derives Object (names.object_name e s role.Call) i o j → IsCalled e.decls.list e.hosts s.roots o.object
+  unfolding names.object_name
+  object_called s i o j d =
+      let name = d.3.0 in
+      let v = d.3.3.0 in
+      let ok = object_by_called s (names.meant e s name) v (checked_ok Var (names.object_of e s role.Call name) d.3.1 v d.3.3.1 d.3.3.2) in
+      subst (λ (p : Object). IsCalled e.decls.list e.hosts s.roots p.object) d.3.3.3.3.0 ok
+
   found_some : (o : Option ℕ) (n : ℕ) → names.found o ≡ Ok n → o ≡ Some n
   found_some None n g = absurd cc
   found_some (Some m) n g = let same : m ≡ n = cc in ap Some same
@@ -229,22 +249,37 @@ module _ (e : Setting) where
 
   -- ---- one step
 
+  abbrev Told : Reading → List Written → Type 0
+  Told s ws = AllTell e.decls.list e.hosts s.roots ws
+
+  once_told : (s : Reading) (w : Written) → Tells e.decls.list e.hosts s.roots w → Told s (written_of (Once w))
+  once_told s w h = subst (Told s) (sym (written_of-Once w)) (h, tt)
+
   -- a step adds roots and names of variables, and its operations name what is there then
   record Steps (s : Reading) (p : spec.Step) : Type 0 where
     roots : Adds (IsRoot e.decls.list) s.roots p.0.roots
     variables : Adds IsName s.variables p.0.variables
+    named : AreNamed e.hosts s.variables → AreNamed e.hosts p.0.variables
     sees : Sees p.0 (written_of p.1)
+    tells : Told p.0 (written_of p.1)
 
   once_sees : (s : Reading) (w : Written) → IsInRange (length s.roots) (length e.sites) (length e.hosts) (length s.variables) (op_of w) → Sees s (written_of (Once w))
   once_sees s w h = subst (Sees s) (sym (written_of-Once w)) (h, tt)
 
   -- an operation that adds nothing
-  performed_steps : (s : Reading) (w : Written) → IsInRange (length s.roots) (length e.sites) (length e.hosts) (length s.variables) (op_of w) → Steps s (spec.performed s w)
-  performed_steps s w h = record { roots = adds_none (IsRoot e.decls.list) s.roots; variables = adds_none IsName s.variables; sees = once_sees s w h }
+  performed_steps : (s : Reading) (w : Written) → IsInRange (length s.roots) (length e.sites) (length e.hosts) (length s.variables) (op_of w) → Tells e.decls.list e.hosts s.roots w
+      → Steps s (spec.performed s w)
+  performed_steps s w h t = record {
+    roots = adds_none (IsRoot e.decls.list) s.roots;
+    variables = adds_none IsName s.variables;
+    named = λ n. n;
+    sees = once_sees s w h;
+    tells = once_told s w t;
+  }
 
   ended_steps : (s : Reading) (w : Written) (i : Input) (p : spec.Step) (j : Input) → Derives spec.Step (spec.ended s w) i p j
-      → IsInRange (length s.roots) (length e.sites) (length e.hosts) (length s.variables) (op_of w) → Steps s p
-  ended_steps s w i p j d h = subst (Steps s) d.3.0 (performed_steps s w h)
+      → IsInRange (length s.roots) (length e.sites) (length e.hosts) (length s.variables) (op_of w) → Tells e.decls.list e.hosts s.roots w → Steps s p
+  ended_steps s w i p j d h t = subst (Steps s) d.3.0 (performed_steps s w h t)
 
   pub assigned_root : (i : Input) (t : Term) (j : Input) → Derives Term (spec.assigned e.decls) i t j → IsRoot e.decls.list t
   unfolding spec.assigned
@@ -262,7 +297,9 @@ module _ (e : Setting) where
       let made : Steps s (spec.loaded e d.0 f t) = record {
         roots = subst (λ (rs : List Term). Adds (IsRoot e.decls.list) rs (f.lane.roots ++ t ∷ [])) l.0 (adds_one (IsRoot e.decls.list) f.lane.roots t root);
         variables = l.1;
+        named = fresh_named s d.1 f d.3.1 d.3.2;
         sees = once_sees (spec.loaded e d.0 f t).0 w (l.2, omega (arith, long));
+        tells = once_told (spec.loaded e d.0 f t).0 w (t, new_root f.lane.roots t, refl);
       } in
       subst (Steps s) d.3.3.3.0 made
 
@@ -270,31 +307,34 @@ module _ (e : Setting) where
   unfolding spec.unload
   unload_steps s i p j d =
       let o = d.3.0 in
-      ended_steps s (kind.Unload d.0 o.at o.variable) d.3.1 p j d.3.3 (own_within s d.1 o d.3.1 d.3.2)
+      ended_steps s (kind.Unload d.0 o.at o.variable) d.3.1 p j d.3.3 (own_within s d.1 o d.3.1 d.3.2) tt
 
   call_steps : (s : Reading) (i : Input) (p : spec.Step) (j : Input) → Derives spec.Step (spec.call e s) i p j → Steps s p
   unfolding spec.call
   call_steps s i p j d =
       let o = d.3.3.0 in
       ended_steps s (kind.Call d.0 d.3.0 o.at o.object) d.3.3.1 p j d.3.3.3 (site_is_there d.1 d.3.0 d.3.1 d.3.2, object_within s role.Call d.3.1 o d.3.3.1 d.3.3.2)
+      (object_called s d.3.1 o d.3.3.1 d.3.3.2)
 
   cast_steps : (s : Reading) (i : Input) (p : spec.Step) (j : Input) → Derives spec.Step (spec.cast e s) i p j → Steps s p
   unfolding spec.cast
   cast_steps s i p j d =
       let o = d.3.0 in
       let q = d.3.3.0 in
-      ended_steps s (kind.Cast d.0 o.at o.object q.at q.object) d.3.3.1 p j d.3.3.3 (object_within s role.Cast d.1 o d.3.1 d.3.2, object_within s role.Cast d.3.1 q d.3.3.1 d.3.3.2)
+      ended_steps s (kind.Cast d.0 o.at o.object q.at q.object) d.3.3.1 p j d.3.3.3 (object_within s role.Cast d.1 o d.3.1 d.3.2, object_within s role.Cast d.3.1 q d.3.3.1 d.3.3.2) tt
 
   -- ---- many
 
   record Bodies (s : Reading) (b : Body) : Type 0 where
     roots : Adds (IsRoot e.decls.list) s.roots b.lane.roots
     variables : Adds IsName s.variables b.lane.variables
+    named : AreNamed e.hosts s.variables → AreNamed e.hosts b.lane.variables
     sees : Sees b.lane (joined (map written_of b.items))
+    tells : Told b.lane (joined (map written_of b.items))
 
   nothing_yet : (s : Reading) → Bodies s (record { lane = s; items = [] })
   unfolding joined
-  nothing_yet s = record { roots = adds_none (IsRoot e.decls.list) s.roots; variables = adds_none IsName s.variables; sees = tt }
+  nothing_yet s = record { roots = adds_none (IsRoot e.decls.list) s.roots; variables = adds_none IsName s.variables; named = λ n. n; sees = tt; tells = tt }
 
   with_item_bodies : (s : Reading) (b : Body) (p : spec.Step) → Bodies s b → Steps b.lane p → Bodies s (spec.with_item b p)
   with_item_bodies s b p h k =
@@ -303,10 +343,15 @@ module _ (e : Setting) where
       let v = adds_longer IsName b.lane.variables p.0.variables k.variables in
       let kept : Sees p.0 old = all_wider (length b.lane.roots) (length p.0.roots) (length e.sites) (length e.hosts) (length b.lane.variables) (length p.0.variables) r v old h.sees in
       let both : Sees p.0 (old ++ written_of p.1) = range_append (length p.0.roots) (length e.sites) (length e.hosts) (length p.0.variables) old (written_of p.1) kept k.sees in
+      let told : Told p.0 old = subst (λ (rs : List Term). AllTell e.decls.list e.hosts rs old) (sym k.roots.1) (tell_later e.decls.list e.hosts b.lane.roots k.roots.0 old h.tells) in
+      let both_told : Told p.0 (old ++ written_of p.1) = tell_append e.decls.list e.hosts p.0.roots old (written_of p.1) told k.tells in
+      let whole = sym (ap joined (map-append written_of b.items (p.1 ∷ [])) ∙ joined-push (map written_of b.items) (written_of p.1)) in
       record {
         roots = adds_on (IsRoot e.decls.list) s.roots b.lane.roots p.0.roots h.roots k.roots;
         variables = adds_on IsName s.variables b.lane.variables p.0.variables h.variables k.variables;
-        sees = subst (Sees p.0) (sym (ap joined (map-append written_of b.items (p.1 ∷ [])) ∙ joined-push (map written_of b.items) (written_of p.1))) both;
+        named = λ n. k.named (h.named n);
+        sees = subst (Sees p.0) whole both;
+        tells = subst (Told p.0) whole both_told;
       }
 
   abbrev StepsBy : (Reading → G spec.Step) → Type 0
@@ -345,10 +390,13 @@ module _ (e : Setting) where
       let seen : Sees t ws = subst (λ (k : ℕ). AreInRange k (length e.sites) (length e.hosts) (length t.variables) ws) (ap length same.0)
       (subst (λ (k : ℕ). AreInRange (length b.lane.roots) (length e.sites) (length e.hosts) k ws) (ap length same.1) h.sees) in
       let all : Sees t (times_of n ws) = range_times (length t.roots) (length e.sites) (length e.hosts) (length t.variables) n ws seen in
+      let told : Told t (times_of n ws) = tell_times e.decls.list e.hosts t.roots n ws (subst (λ (rs : List Term). AllTell e.decls.list e.hosts rs ws) same.0 h.tells) in
       let made : Steps s (t, Repeat n b.items) = record {
         roots = subst (Adds (IsRoot e.decls.list) s.roots) same.0 h.roots;
         variables = subst (Adds IsName s.variables) same.1 h.variables;
+        named = λ m. subst (AreNamed e.hosts) same.1 (h.named m);
         sees = subst (Sees t) (sym (written_of-Repeat n b.items)) all;
+        tells = subst (Told t) (sym (written_of-Repeat n b.items)) told;
       } in
       subst (Steps s) d.3.3.0 made
 
@@ -386,6 +434,19 @@ module _ (e : Setting) where
   pub lane_sees : (roots : List Term) (i : Input) (b : Body) (j : Input) → Derives Body (spec.lane e roots) i b j
       → AreInRange (length b.lane.roots) (length e.sites) (length e.hosts) (length b.lane.variables) (written_out b)
   lane_sees roots i b j d = (lane_bodies roots i b j d).sees
+
+  pub lane_tells : (roots : List Term) (i : Input) (b : Body) (j : Input) → Derives Body (spec.lane e roots) i b j → AllTell e.decls.list e.hosts b.lane.roots (written_out b)
+  lane_tells roots i b j d = (lane_bodies roots i b j d).tells
+
+  lane_named : (roots : List Term) (i : Input) (b : Body) (j : Input) → Derives Body (spec.lane e roots) i b j → AreNamed e.hosts b.lane.variables
+  lane_named roots i b j d = (lane_bodies roots i b j d).named (none_named e.hosts)
+
+pub lane_apart : NamesApart
+lane_apart e roots i b j d = (lane_named e roots i b j d).apart
+
+pub lane_no_hosts : NamesNoHost
+lane_no_hosts e roots i b j d few =
+    All-weaker (λ name. host_number e.hosts name ≡ None) (IsNoHost e.hosts) (λ name none. no_host_named e.hosts name few none) b.lane.variables (lane_named e roots i b j d).no_hosts
 
 pub lane_names : HasNames
 lane_names e roots i b j d = let n = (lane_bodies e roots i b j d).variables in subst (All IsName) (sym n.1) n.2

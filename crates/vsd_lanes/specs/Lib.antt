@@ -8,3 +8,6 @@ pub mod Steps
 pub mod Productions
 pub mod Laws
 pub mod Allowed
+pub mod Naming
+pub mod Objects
+pub mod FirstReading

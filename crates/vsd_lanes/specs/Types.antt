@@ -1,5 +1,5 @@
 -- What names and types stand for in a script: its declarations, and nothing else.
-use Rattle.std.specs.Prelude.{◌≡◌, ℕ, nat_eq, Bool, false, not, ◌&&◌, if◌then◌else◌, IsTrue, List, length, position, Option, Some, None, Result, Ok, Err}
+use Rattle.std.specs.Prelude.{◌≡◌, ℕ, nat_eq, nat_lt, Bool, false, not, ◌&&◌, if◌then◌else◌, IsTrue, List, length, position, Option, Some, None, Result, Ok, Err}
 use Rattle.std.specs.Str.{bytes_eq}
 use Rattle.vsd_terms.specs.declared.term.Term.{Term}
 use Rattle.vsd_terms.specs.Substitution.{parameters_of}
@@ -8,8 +8,11 @@ use Rattle.vsd_ast.specs.declared.declarations.Decls.{Decls}
 use Rattle.vsd_ast.specs.Lookup.{Head, named, parameter, built_in, head_of, declared, is_lawful}
 use Rattle.vsd_grammar.specs.Input.{State}
 use Rattle.vsd_grammar.specs.declared.cause.Cause.{Cause}
-use Rattle.vsd_grammar.specs.declared.cause.Cause.TheVariants.{UnknownName, Arity}
+use Rattle.vsd_grammar.specs.declared.cause.Cause.TheVariants.{TooMany, UnknownName, Arity}
+use Rattle.vsd_grammar.specs.declared.cause.Counted.TheVariants as limit
+use Rattle.vsd_grammar.specs.Productions.{most_bytes}
 use Rattle.vsd_type_syntax.specs.Types.{Rules}
+use Rattle.vsd_type_syntax.specs.Limits.{IsSmall}
 
 -- ---- names of types
 
@@ -30,12 +33,16 @@ abbrev pub arity_by : Option Decl → ℕ → Option Cause
 arity_by (Some x) count = if nat_eq (length x.params) count then None else Some Arity
 arity_by None count = None
 
--- A name is that of a declared type, a name after a scope is unknown, there are no parameters, and a type has as many
--- arguments as its declaration has parameters.
+-- why a name after a scope is refused: one that is too long is no name, and any other is unknown
+abbrev pub foreign_cause : List ℕ → Cause
+foreign_cause name = if nat_lt most_bytes (length name) then TooMany limit.NameBytes else UnknownName
+
+-- A name is that of a declared type, a name after a scope is none of them, there are no parameters, and a type has as
+-- many arguments as its declaration has parameters.
 abbrev pub rules_of : Decls → Rules
 rules_of d = record {
   resolve = λ name s. resolved (numbered d.list (position (bytes_eq name) d.names)) s;
-  foreign = λ name. UnknownName;
+  foreign = foreign_cause;
   has_parameters = false;
   parameter = λ q bytes. None;
   arity = λ number count. arity_by (declared d.list number) count;
@@ -58,7 +65,9 @@ is_concrete ds t = is_concrete_head ds (head_of t)
 
 -- ---- roots
 
--- a term without parameters whose names are declared, each with as many arguments as its declaration has parameters
+-- a term without parameters whose names are declared, each with as many arguments as its declaration has parameters, of
+-- at most 16 levels and 64 nodes
 pub record IsRoot (ds : List Decl) (t : Term) : Type 0 where
   pub closed : parameters_of t ≡ 0
   pub lawful : IsTrue (is_lawful ds t)
+  pub small : IsSmall t

@@ -13,7 +13,10 @@ mod types;
 mod variables;
 
 pub use ground::Ground;
-pub use laws::{lanes_are_decided, lanes_mean_their_items, lanes_use_what_lives};
+pub use laws::{
+    lanes_are_decided, lanes_call_concrete_objects, lanes_mean_their_items, lanes_use_what_lives,
+    operations_are_read_as_made,
+};
 pub use lookup::{host_in, numbered, site_in};
 pub use operations::{Step, assigned};
 pub use reading::{Fresh, Object, Own, Reading, Role, show};

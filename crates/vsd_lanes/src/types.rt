@@ -9,10 +9,13 @@ ghost use Rattle.vsd_grammar.specs.Productions.{Reads};
 ghost use Rattle.vsd_lanes.specs.Types.{numbered, rules_of, arity_by, is_concrete, is_concrete_by};
 
 use vsd_ast::{Decl, Decls};
-use vsd_grammar::{Cause, Cursor, Stop, TokenClass};
+use vsd_grammar::{Cause, Counted, Cursor, Stop, TokenClass};
 use vsd_lawful::Scope;
 use vsd_terms::Term;
 use vsd_type_syntax::TypeRules;
+
+/// The most bytes of a name.
+const MOST_NAME_BYTES: usize = 255;
 
 /// The declarations of a text, found by name.
 #[derive(Clone, Copy)]
@@ -98,8 +101,11 @@ impl<'a> TypeRules for Types<'a> {
     fn foreign(&self, name: &[u8]) -> Cause
         ensures { result ≡ (rules_of self.now.decls.now).foreign name.now }
     {
-        let _ = name;
-        Cause::UnknownName
+        if name.len() > MOST_NAME_BYTES {
+            Cause::TooMany(Counted::NameBytes)
+        } else {
+            Cause::UnknownName
+        }
     }
 
     fn has_parameters(&self) -> bool

@@ -5,6 +5,10 @@ use Rattle.vsd_outside.specs.Pieces.{TakesPart}
 use Rattle.vsd_lines.specs.declared.errors.LinesError.{LinesError}
 use Rattle.vsd_lines.specs.declared.errors.LinesError.TheVariants.{Failed, Memory}
 
+-- a page of as many bytes as this, or more, is full
+abbrev pub page_size : ℕ
+page_size = 65536
+
 -- A text came after what waited: the sink took the first of these bytes, and the others wait.
 pub record Carries (old new : Option (List ℕ)) (room left : ℕ → Type 0) (waited waits text : List ℕ) : Type 0 where
   pub written : List ℕ

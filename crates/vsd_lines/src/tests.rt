@@ -95,6 +95,7 @@ fn rows(alloc: Global) -> Result<Script, AllocError>
     })
 }
 
+/// Lines that fill no page are written at once: a second write would fail.
 #[test]
 fn writes_the_lines_of_rows(rt: HostRuntime) -> Result<(), Fail> {
     let alloc = rt.alloc();
@@ -105,7 +106,7 @@ fn writes_the_lines_of_rows(rt: HostRuntime) -> Result<(), Fail> {
         Bytes::from_slice(alloc, b"IIn`1<object>::Put")?,
     ];
     let answers = [vec![in alloc; 1, 0]?, vec![in alloc; 0, 1]?];
-    let mut sink = MemorySink::new(alloc, 4096, Vec::new(alloc))?;
+    let mut sink = MemorySink::new(alloc, 4096, vec![in alloc; 2]?)?;
     let written = write_lines(
         alloc,
         &script,

@@ -1,6 +1,7 @@
 //! Standard input and output: the trusted edge. What they give and take isn't told.
 ghost use Rattle.std.specs.Prelude.{◌≡◌, ◌≢◌, ℕ, None, IfErr};
 ghost use Rattle.std.specs.Io.{ReadsAtMost, WritesAtMost};
+ghost use Rattle.std.specs.Io.KnownBytes.{ReadConsumes, WriteAppends};
 ghost use Rattle.std.specs.IoError.{error_kind};
 ghost use Rattle.std.specs.declared.io.ErrorKind.{ErrorKind};
 
@@ -79,9 +80,11 @@ impl Sink for StdSink {
 /// How often a read or write that a signal interrupts is tried: in practice until it isn't interrupted.
 const TRIES: u64 = u64::MAX;
 
-/// One read, tried again where a signal interrupts it.
+/// One read, tried again where a signal interrupts it. Of a reader that tells its bytes, those given are the next,
+/// and none come only at its end.
 pub(crate) fn read_uninterrupted<R: Read>(reader: &mut R, into: &mut [u8]) -> IoResult<usize>
     ensures bound { ReadsAtMost result into.new }
+    ensures bytes { ReadConsumes (R.remaining reader.old) (R.remaining reader.new) result into.new }
     ensures tried_again { IfErr result (λ error. error_kind error ≢ ErrorKind.Interrupted) }
 {
     for _ in 0..TRIES {
@@ -93,9 +96,10 @@ pub(crate) fn read_uninterrupted<R: Read>(reader: &mut R, into: &mut [u8]) -> Io
     Err(Error::from(ErrorKind::TimedOut))
 }
 
-/// One write, tried again where a signal interrupts it.
+/// One write, tried again where a signal interrupts it. A writer that tells its bytes took those that are told.
 pub(crate) fn write_uninterrupted<W: Write>(writer: &mut W, piece: &[u8]) -> IoResult<usize>
     ensures bound { WritesAtMost result piece.now }
+    ensures bytes { WriteAppends (W.contents writer.old) (W.contents writer.new) result piece.now }
     ensures tried_again { IfErr result (λ error. error_kind error ≢ ErrorKind.Interrupted) }
 {
     for _ in 0..TRIES {

@@ -1,10 +1,9 @@
 -- A script that is read keeps the limits, its numbers name what is there, and its terms are closed and lawful.
-use Rattle.std.proofs.Common.{◌≡◌, ℕ, zero, suc, ◌+◌, ◌-◌, ◌<◌, ◌≤◌, Bool, true, false, cond, eqb, ltb, List, [], ◌∷◌, ◌++◌, length, All, Option, Some, None, Ok, refl, ap, sym, subst, ◌∙◌, length-append, arith}
+use Rattle.std.proofs.Common.{◌≡◌, ℕ, zero, suc, ◌+◌, ◌-◌, ◌<◌, ◌≤◌, Bool, true, false, cond, eqb, ltb, List, [], ◌∷◌, ◌++◌, length, take, map, All, Contains, Option, Some, None, Ok, refl, ap, sym, subst, ◌∙◌, length-append, arith}
 use Rattle.std.specs.List.{slice_get, sum_by}
 use Rattle.std.proofs.Math.ListN.{get_or-append}
-use Rattle.std.proofs.Math.Seq.{get_or-append_seam}
 use Rattle.std.proofs.lemmas.Bool.{ltb-true}
-use Rattle.std.proofs.lemmas.List.{length_push}
+use Rattle.std.proofs.lemmas.List.{append-nil, length_push, map-append, take_all, take-append-le}
 use Rattle.std.proofs.lemmas.List.Elements.{All-nil, All-head, All-tail, All-append, All-push, All-weaker}
 use Rattle.std.proofs.lemmas.List.Sums.{sum_by-cons, sum_by-append}
 use Rattle.std.proofs.lemmas.Option.{slice_get_within, slice_get-get_or, get_or_from_slice_get}
@@ -15,8 +14,11 @@ use Rattle.vsd_ast.specs.declared.declarations.Decls.{Decls}
 use Rattle.vsd_ast.specs.declared.declarations.Method.{Method}
 use Rattle.vsd_ast.specs.declared.scripts.Host.{Host}
 use Rattle.vsd_ast.specs.declared.scripts.Lane.{Lane}
+use Rattle.vsd_ast.specs.declared.scripts.Op.{Op}
 use Rattle.vsd_ast.specs.declared.scripts.Script.{Script}
 use Rattle.vsd_ast.specs.declared.scripts.Site.{Site}
+use Rattle.vsd_ast.specs.declared.scripts.Var.{Var}
+use Rattle.vsd_ast.specs.declared.scripts.Var.TheVariants as var
 use Rattle.vsd_ast.specs.Lookup.{Head, named, parameter, built_in, head_of, declared}
 use Rattle.vsd_ast.specs.WellFormed.{IsName, IsDeclaration, AreWellFormed}
 use Rattle.vsd_ast.specs.Scripts.{IsHost, IsLane, IsSite, IsWellFormedScript}
@@ -27,17 +29,24 @@ use Rattle.vsd_grammar.specs.declared.cause.Listed.TheVariants as listed
 use Rattle.vsd_grammar.specs.Input.{Input, is_end}
 use Rattle.vsd_grammar.specs.Grammar.{Derives, Turns}
 use Rattle.vsd_grammar.specs.Productions.{checked}
-use Rattle.vsd_lanes.specs.Setting.{setting, numbered}
+use Rattle.vsd_lanes.specs.Setting.{setting, place_from}
 use Rattle.vsd_lanes.specs.Types.{IsRoot}
 use Rattle.vsd_lanes.proofs.AllowedLemmas.{lane_allowed, lane_fits}
 use Rattle.vsd_lanes.proofs.Meant.{shows_none, checked_ok}
-use Rattle.vsd_lanes.proofs.RangeLemmas.{spelled_is_name, assigned_root, lane_names, lane_adds}
+use Rattle.vsd_lanes.proofs.RangeLemmas.{spelled_is_name, assigned_root, lane_names, lane_adds, lane_apart, lane_no_hosts}
 use Rattle.vsd_lanes.proofs.RootLemmas.{written_root}
+use Rattle.vsd_lanes.specs.Naming.{AreApart, IsNoHost, host_names}
+use Rattle.vsd_lanes.specs.Objects.{IsConcreteObject, CallsConcrete}
+use Rattle.vsd_lanes.proofs.NamingLemmas.{apart_push, none_apart, not_placed}
+use Rattle.vsd_lanes.proofs.ObjectLemmas.{lane_calls}
+use Rattle.vsd_lanes.proofs.Telling.{kept_root, new_root, kept_concrete}
+use Rattle.vsd_script.proofs.CountingLemmas.{slot_found}
 use Rattle.vsd_script.proofs.Widening.{lane_wider}
 use Rattle.vsd_script.specs.declared.script.Word.{Word}
 use Rattle.vsd_script.specs.declared.script.Word.TheVariants as word
 use Rattle.vsd_script.specs.Formed.{HasSlot, NamesMethod}
-use Rattle.vsd_script.specs.Methods.{nth_from, slot_by, slot_head, slot_of}
+use Rattle.vsd_script.specs.Named.{site_names, NamesItsOwn, HasOwnNames, CallsOnlyConcrete}
+use Rattle.vsd_script.specs.Methods.{nth_from, slot_of}
 use Rattle.vsd_script.specs.Productions as spec
 
 -- ---- limits
@@ -86,43 +95,24 @@ nth_within place n (m ∷ ms) name slot e = go (λ k. nth_within (place + 1) k m
     go rest true false f = later rest (n - 1) f
     go rest false c f = later rest n f
 
-numbered_some : (o : Option ℕ) (n : ℕ) → numbered o ≡ Some n → o ≡ Some n
-numbered_some None n e = absurd cc
-numbered_some (Some m) n e = go (ltb m 65536) e
-  where
-    go : (b : Bool) → ◌≡◌ {A = Option ℕ} (cond b (Some m) None) (Some n) → ◌≡◌ {A = Option ℕ} (Some m) (Some n)
-    go true h = h
-    go false h = absurd cc
-
-slot_found : (ds : List Decl) (t : Term) (name : List ℕ) (n slot : ℕ) → slot_of ds t name n ≡ Some slot → HasSlot ds t slot
-slot_found ds t name n slot e = go (head_of t) refl e
-  where
-    by : (number : ℕ) → head_of t ≡ named number → (x : Option Decl) → declared ds number ≡ x → slot_by x name n ≡ Some slot → HasSlot ds t slot
-    by number h None f g = absurd cc
-    by number h (Some x) f g = at x.is_interface refl g
-      where
-        at : (b : Bool) → x.is_interface ≡ b → cond b (numbered (nth_from 0 n x.methods name)) None ≡ Some slot → HasSlot ds t slot
-        at false k m = absurd cc
-        at true k m = record {
-          number = number;
-          head = h;
-          interface = x;
-          found = f;
-          is_interface = k;
-          within = let w = nth_within 0 n x.methods name slot (numbered_some (nth_from 0 n x.methods name) slot m) in omega (arith, w);
-        }
-
-    go : (h : Head) → head_of t ≡ h → slot_head ds h name n ≡ Some slot → HasSlot ds t slot
-    go (named number) f g = by number f (declared ds number) refl g
-    go (parameter place) f g = absurd cc
-    go (built_in b) f g = absurd cc
+slot_is_there : (ds : List Decl) (t : Term) (name : List ℕ) (n slot : ℕ) → slot_of ds t name n ≡ Some slot → HasSlot ds t slot
+slot_is_there ds t name n slot e =
+    let f = slot_found ds t name n slot e in
+    record {
+      number = f.number;
+      head = f.head;
+      interface = f.interface;
+      found = f.found;
+      is_interface = f.is_interface;
+      within = let w = nth_within 0 n f.interface.methods name slot f.nth in omega (arith, w);
+    }
 
 a_method_some : (o : Option ℕ) (slot : ℕ) → spec.a_method o ≡ Ok slot → o ≡ Some slot
 a_method_some None slot e = absurd cc
 a_method_some (Some n) slot e = let same : n ≡ slot = cc in ap Some same
 
 checked_slot : (ds : List Decl) (t : Term) (name : List ℕ) (n : ℕ) (i : Input) (slot : ℕ) (j : Input) → Derives ℕ (checked ℕ (spec.a_method (slot_of ds t name n))) i slot j → HasSlot ds t slot
-checked_slot ds t name n i slot j g = slot_found ds t name n slot (a_method_some (slot_of ds t name n) slot (checked_ok ℕ (spec.a_method (slot_of ds t name n)) i slot j g))
+checked_slot ds t name n i slot j g = slot_is_there ds t name n slot (a_method_some (slot_of ds t name n) slot (checked_ok ℕ (spec.a_method (slot_of ds t name n)) i slot j g))
 
 counted_has_slot : (ds : List Decl) (t : Term) (name : List ℕ) (i : Input) (slot : ℕ) (j : Input) → Derives ℕ (spec.counted_slot ds t name) i slot j → HasSlot ds t slot
 unfolding spec.counted_slot
@@ -157,21 +147,38 @@ few_slots d t slot w h =
 
 record Keeps (d : Decls) (s : Script) : Type 0 where
   formed : IsWellFormedScript s
+  names : HasOwnNames s
+  calls : CallsOnlyConcrete d s
   roots : All (IsRoot d.list) s.roots
   slots : All (NamesMethod d.list s.roots) s.sites
 
--- further roots
-kept_root : (xs more : List Term) (n : ℕ) (t : Term) → slice_get xs n ≡ Some t → slice_get (xs ++ more) n ≡ Some t
-kept_root xs more n t e =
-    let within = slice_get_within xs n t e in
+kept_place : (xs more : List Host) (n : ℕ) (h : Host) → slice_get xs n ≡ Some h → slice_get (xs ++ more) n ≡ Some h
+kept_place xs more n h e =
+    let within = slice_get_within xs n h e in
     let long = length-append xs more in
-    let at = slice_get-get_or (xs ++ more) n t (omega (arith, within, long)) in
-    at ∙ ap Some (get_or-append xs more t n within ∙ get_or_from_slice_get xs n t t e)
+    slice_get-get_or (xs ++ more) n h (omega (arith, within, long)) ∙ ap Some (get_or-append xs more h n within ∙ get_or_from_slice_get xs n h h e)
 
-new_root : (xs : List Term) (t : Term) → slice_get (xs ++ t ∷ []) (length xs) ≡ Some t
-new_root xs t =
-    let long = length_push xs t in
-    slice_get-get_or (xs ++ t ∷ []) (length xs) t (omega (arith, long)) ∙ ap Some (get_or-append_seam xs t [] t)
+-- a lane names its own where there are more roots, sites and hosts
+own_wider : (m n : ℕ) → m ≤ n → (p q : ℕ) → p ≤ q → (hosts more : List Host) → (l : Lane) → NamesItsOwn m p hosts l → NamesItsOwn n q (hosts ++ more) l
+own_wider m n h p q g hosts more l k =
+    let within = k.within in
+    let long = length-append hosts more in
+    record {
+      apart = k.apart;
+      before = k.before;
+      within = omega (arith, within, long);
+      knows = lane_wider m n p q k.before k.before h g (omega arith) l k.knows;
+      no_host = subst (λ (hs : List Host). All (IsNoHost hs) l.names) (sym (take-append-le k.before hosts more within)) k.no_host;
+    }
+
+-- calls are made on such objects where there are more roots and hosts
+module _ (ds : List Decl) (roots more_roots : List Term) (hosts more_hosts : List Host) where
+  object_wider : (ops : List Op) (o : Var) → IsConcreteObject ds roots hosts ops o → IsConcreteObject ds (roots ++ more_roots) (hosts ++ more_hosts) ops o
+  object_wider ops (var.Host n) k = (k.0, kept_place hosts more_hosts n k.0 k.1, kept_concrete ds roots more_roots k.0.root k.2)
+  object_wider ops (var.Own v) k = (k.0, k.1, kept_concrete ds roots more_roots k.0 k.2)
+
+  calls_wider : (l : Lane) → CallsConcrete ds roots hosts l.ops → CallsConcrete ds (roots ++ more_roots) (hosts ++ more_hosts) l.ops
+  calls_wider l k before after site object is = object_wider before object (k before after site object is)
 
 site_wider : (m n : ℕ) → m ≤ n → (s : Site) → IsSite m s → IsSite n s
 site_wider m n h s k = let r = k.root in record { name = k.name; root = omega (arith, h, r); slot = k.slot }
@@ -205,6 +212,14 @@ module _ (d : Decls) (w : AreWellFormed d) where
           lanes = All-weaker (IsLane n (length s.sites) (length s.hosts)) (IsLane m (length s.sites) (length s.hosts))
               (lane_wider n m (length s.sites) (length s.sites) (length s.hosts) (length s.hosts) long (omega arith) (omega arith)) s.lanes f.lanes;
         };
+        names = record {
+          sites = k.names.sites;
+          hosts = k.names.hosts;
+          lanes = All-weaker (NamesItsOwn n (length s.sites) s.hosts) (NamesItsOwn m (length s.sites) s.hosts)
+              (λ l o. subst (λ (hs : List Host). NamesItsOwn m (length s.sites) hs l) (append-nil s.hosts) (own_wider n m long (length s.sites) (length s.sites) (omega arith) s.hosts [] l o)) s.lanes k.names.lanes;
+        };
+        calls = All-weaker (λ (l : Lane). CallsConcrete d.list s.roots s.hosts l.ops) (λ (l : Lane). CallsConcrete d.list (s.roots ++ more) s.hosts l.ops)
+            (λ l o. subst (λ (hs : List Host). CallsConcrete d.list (s.roots ++ more) hs l.ops) (append-nil s.hosts) (calls_wider d.list s.roots more s.hosts [] l o)) s.lanes k.calls;
         roots = All-append (IsRoot d.list) s.roots more k.roots new;
         slots = All-weaker (NamesMethod d.list s.roots) (NamesMethod d.list (s.roots ++ more)) (slot_kept d.list s.roots more) s.sites k.slots;
       }
@@ -220,8 +235,24 @@ module _ (d : Decls) (w : AreWellFormed d) where
   unfolding spec.host_name
   host_name_is hosts i name j g = subst IsName g.3.3.3.0 (spelled_is_name i g.0 g.1 g.2)
 
-  with_site_keeps : (s : Script) (name : List ℕ) (t : Term) (slot : ℕ) → length s.sites < 256 → IsName name → IsRoot d.list t → HasSlot d.list t slot → Keeps d s → Keeps d (spec.with_site s name t slot)
-  with_site_keeps s name t slot room spelled root has k =
+  not_taken : (o : Option ℕ) → spec.taken o ≡ None → o ≡ None
+  not_taken None e = refl
+  not_taken (Some n) e = absurd cc
+
+  site_name_new : (sites : List Site) (i : Input) (name : List ℕ) (j : Input) → Derives (List ℕ) (spec.site_name sites) i name j → ¬ Contains (site_names sites) name
+  unfolding spec.site_name
+  site_name_new sites i name j g =
+      let free = not_taken (place_from 0 (site_names sites) g.0) (shows_none (spec.taken (place_from 0 (site_names sites) g.0)) g.1 g.3.0 g.3.1 g.3.2) in
+      subst (λ n. ¬ Contains (site_names sites) n) g.3.3.3.0 (not_placed (site_names sites) g.0 free)
+
+  host_name_new : (hosts : List Host) (i : Input) (name : List ℕ) (j : Input) → Derives (List ℕ) (spec.host_name hosts) i name j → ¬ Contains (host_names hosts) name
+  unfolding spec.host_name
+  host_name_new hosts i name j g =
+      let free = not_taken (place_from 0 (host_names hosts) g.0) (shows_none (spec.taken (place_from 0 (host_names hosts) g.0)) g.1 g.3.0 g.3.1 g.3.2) in
+      subst (λ n. ¬ Contains (host_names hosts) n) g.3.3.3.0 (not_placed (host_names hosts) g.0 free)
+
+  with_site_keeps : (s : Script) (name : List ℕ) (t : Term) (slot : ℕ) → length s.sites < 256 → IsName name → ¬ Contains (site_names s.sites) name → IsRoot d.list t → HasSlot d.list t slot → Keeps d s → Keeps d (spec.with_site s name t slot)
+  with_site_keeps s name t slot room spelled fresh root has k =
       let k2 = roots_keep s (t ∷ []) (one_root t root) k in
       let f = k2.formed in
       let n = length (s.roots ++ t ∷ []) in
@@ -241,12 +272,20 @@ module _ (d : Decls) (w : AreWellFormed d) where
           lanes = All-weaker (IsLane n (length s.sites) (length s.hosts)) (IsLane n (length (s.sites ++ site ∷ [])) (length s.hosts))
               (lane_wider n n (length s.sites) (length (s.sites ++ site ∷ [])) (length s.hosts) (length s.hosts) (omega arith) (omega (arith, one_more)) (omega arith)) s.lanes f.lanes;
         };
+        names = record {
+          sites = subst AreApart (sym (map-append (λ (x : Site). x.name) s.sites (site ∷ []))) (apart_push (site_names s.sites) name fresh k2.names.sites);
+          hosts = k2.names.hosts;
+          lanes = All-weaker (NamesItsOwn n (length s.sites) s.hosts) (NamesItsOwn n (length (s.sites ++ site ∷ [])) s.hosts)
+              (λ l o. subst (λ (hs : List Host). NamesItsOwn n (length (s.sites ++ site ∷ [])) hs l) (append-nil s.hosts)
+              (own_wider n n (omega arith) (length s.sites) (length (s.sites ++ site ∷ [])) (omega (arith, one_more)) s.hosts [] l o)) s.lanes k2.names.lanes;
+        };
+        calls = k2.calls;
         roots = k2.roots;
         slots = All-push (NamesMethod d.list (s.roots ++ t ∷ [])) s.sites site k2.slots names;
       }
 
-  with_host_keeps : (s : Script) (name : List ℕ) (t : Term) → length s.hosts < 256 → IsName name → IsRoot d.list t → Keeps d s → Keeps d (spec.with_host s name t)
-  with_host_keeps s name t room spelled root k =
+  with_host_keeps : (s : Script) (name : List ℕ) (t : Term) → length s.hosts < 256 → IsName name → ¬ Contains (host_names s.hosts) name → IsRoot d.list t → Keeps d s → Keeps d (spec.with_host s name t)
+  with_host_keeps s name t room spelled fresh root k =
       let k2 = roots_keep s (t ∷ []) (one_root t root) k in
       let f = k2.formed in
       let n = length (s.roots ++ t ∷ []) in
@@ -265,13 +304,21 @@ module _ (d : Decls) (w : AreWellFormed d) where
           lanes = All-weaker (IsLane n (length s.sites) (length s.hosts)) (IsLane n (length s.sites) (length (s.hosts ++ host ∷ [])))
               (lane_wider n n (length s.sites) (length s.sites) (length s.hosts) (length (s.hosts ++ host ∷ [])) (omega arith) (omega arith) (omega (arith, one_more))) s.lanes f.lanes;
         };
+        names = record {
+          sites = k2.names.sites;
+          hosts = subst AreApart (sym (map-append (λ (x : Host). x.name) s.hosts (host ∷ []))) (apart_push (host_names s.hosts) name fresh k2.names.hosts);
+          lanes = All-weaker (NamesItsOwn n (length s.sites) s.hosts) (NamesItsOwn n (length s.sites) (s.hosts ++ host ∷ []))
+              (own_wider n n (omega arith) (length s.sites) (length s.sites) (omega arith) s.hosts (host ∷ [])) s.lanes k2.names.lanes;
+        };
+        calls = All-weaker (λ (l : Lane). CallsConcrete d.list (s.roots ++ t ∷ []) s.hosts l.ops) (λ (l : Lane). CallsConcrete d.list (s.roots ++ t ∷ []) (s.hosts ++ host ∷ []) l.ops)
+            (λ l o. subst (λ (rs : List Term). CallsConcrete d.list rs (s.hosts ++ host ∷ []) l.ops) (append-nil (s.roots ++ t ∷ [])) (calls_wider d.list (s.roots ++ t ∷ []) [] s.hosts (host ∷ []) l o)) s.lanes k2.calls;
         roots = k2.roots;
         slots = k2.slots;
       }
 
   with_lane_keeps : (s : Script) (l : Lane) → length s.lanes < 64 → operations s.lanes + length l.ops ≤ 200000 → IsLane (length s.roots) (length s.sites) (length s.hosts) l
-      → Keeps d s → Keeps d (record s { lanes = s.lanes ++ l ∷ [] })
-  with_lane_keeps s l room fits is k =
+      → NamesItsOwn (length s.roots) (length s.sites) s.hosts l → CallsConcrete d.list s.roots s.hosts l.ops → Keeps d s → Keeps d (record s { lanes = s.lanes ++ l ∷ [] })
+  with_lane_keeps s l room fits is own made k =
       let f = k.formed in
       let one_more = length_push s.lanes l in
       let all = operations_push s.lanes l in
@@ -285,6 +332,12 @@ module _ (d : Decls) (w : AreWellFormed d) where
           hosts = f.hosts;
           lanes = All-push (IsLane (length s.roots) (length s.sites) (length s.hosts)) s.lanes l f.lanes is;
         };
+        names = record {
+          sites = k.names.sites;
+          hosts = k.names.hosts;
+          lanes = All-push (NamesItsOwn (length s.roots) (length s.sites) s.hosts) s.lanes l k.names.lanes own;
+        };
+        calls = All-push (λ (x : Lane). CallsConcrete d.list s.roots s.hosts x.ops) s.lanes l k.calls made;
         roots = k.roots;
         slots = k.slots;
       }
@@ -301,7 +354,7 @@ module _ (d : Decls) (w : AreWellFormed d) where
       let spelled = site_name_is s.sites g.1 name g.3.1 g.3.2 in
       let root = written_root d false g.3.3.1 term g.3.3.3.1 g.3.3.3.2 in
       let has = slot_is d.list term g.3.3.3.3.1 slot g.3.3.3.3.3.1 g.3.3.3.3.3.2 in
-      subst (Keeps d) g.3.3.3.3.3.3.3.0 (with_site_keeps s name term slot room spelled root has k)
+      subst (Keeps d) g.3.3.3.3.3.3.3.0 (with_site_keeps s name term slot room spelled (site_name_new s.sites g.1 name g.3.1 g.3.2) root has k)
 
   host_keeps : (s : Script) (i : Input) (t : Script) (j : Input) → Keeps d s → Derives Script (spec.host d s) i t j → Keeps d t
   unfolding spec.host
@@ -311,7 +364,7 @@ module _ (d : Decls) (w : AreWellFormed d) where
       let room = begun_few (length s.hosts) 256 listed.Hosts i g.0 g.1 g.2 in
       let spelled = host_name_is s.hosts g.1 name g.3.1 g.3.2 in
       let root = assigned_root (setting d s.sites s.hosts 0) g.3.1 term g.3.3.1 g.3.3.2 in
-      subst (Keeps d) g.3.3.3.0 (with_host_keeps s name term room spelled root k)
+      subst (Keeps d) g.3.3.3.0 (with_host_keeps s name term room spelled (host_name_new s.hosts g.1 name g.3.1 g.3.2) root k)
 
   lane_keeps : (s : Script) (i : Input) (t : Script) (j : Input) → Keeps d s → Derives Script (spec.lane_of d s) i t j → Keeps d t
   unfolding spec.lane_of
@@ -326,7 +379,17 @@ module _ (d : Decls) (w : AreWellFormed d) where
       let left = room_is 200000 s.lanes in
       let before = k.formed.few_ops in
       let is : IsLane (length b.lane.roots) (length s.sites) (length s.hosts) l = record { names = lane_names e s.roots g.1 b g.3.1 g.3.2; ops = lane_allowed e s.roots g.1 b g.3.1 g.3.2 } in
-      subst (Keeps d) g.3.3.0 (with_lane_keeps (record s { roots = b.lane.roots }) l room (omega (arith, fits, left, before)) is k2)
+      let few = k.formed.few_hosts in
+      let names = lane_no_hosts e s.roots g.1 b g.3.1 g.3.2 (omega (arith, few)) in
+      let own : NamesItsOwn (length b.lane.roots) (length s.sites) s.hosts l = record {
+        apart = lane_apart e s.roots g.1 b g.3.1 g.3.2;
+        before = length s.hosts;
+        within = omega arith;
+        knows = is;
+        no_host = subst (λ (hs : List Host). All (IsNoHost hs) l.names) (sym (take_all (length s.hosts) s.hosts (omega arith))) names;
+      } in
+      let made = lane_calls e s.roots g.1 b g.3.1 g.3.2 in
+      subst (Keeps d) g.3.3.0 (with_lane_keeps (record s { roots = b.lane.roots }) l room (omega (arith, fits, left, before)) is own made k2)
 
   statement_keeps : (s : Script) (i : Input) (t : Script) (j : Input) → Keeps d s → Derives Script (spec.statement d s) i t j → Keeps d t
   unfolding spec.statement
@@ -353,6 +416,8 @@ module _ (d : Decls) (w : AreWellFormed d) where
       hosts = All-nil (IsHost 0);
       lanes = All-nil (IsLane 0 0 0);
     };
+    names = record { sites = none_apart; hosts = none_apart; lanes = All-nil (NamesItsOwn 0 0 []) };
+    calls = All-nil (λ (l : Lane). CallsConcrete d.list [] [] l.ops);
     roots = All-nil (IsRoot d.list);
     slots = All-nil (NamesMethod d.list []);
   }
@@ -363,6 +428,12 @@ module _ (d : Decls) (w : AreWellFormed d) where
 
   pub script_formed : (i : Input) (s : Script) (j : Input) → Derives Script (spec.script d) i s j → IsWellFormedScript s
   script_formed i s j g = (script_keeps i s j g).formed
+
+  pub script_names : (i : Input) (s : Script) (j : Input) → Derives Script (spec.script d) i s j → HasOwnNames s
+  script_names i s j g = (script_keeps i s j g).names
+
+  pub script_calls : (i : Input) (s : Script) (j : Input) → Derives Script (spec.script d) i s j → CallsOnlyConcrete d s
+  script_calls i s j g = (script_keeps i s j g).calls
 
   pub script_roots : (i : Input) (s : Script) (j : Input) → Derives Script (spec.script d) i s j → All (IsRoot d.list) s.roots
   script_roots i s j g = (script_keeps i s j g).roots

@@ -4,3 +4,4 @@ pub mod Told
 pub mod Keeping
 pub mod Terms
 pub mod Widening
+pub mod CountingLemmas

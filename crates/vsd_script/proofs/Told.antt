@@ -6,10 +6,11 @@ use Rattle.vsd_grammar.specs.declared.syntax_error.Stop.TheVariants as stop
 use Rattle.vsd_grammar.specs.Input.{Input}
 use Rattle.vsd_grammar.specs.Grammar.{G, Outcome, run, Derives, Decides}
 use Rattle.vsd_grammar.specs.Productions.{Reads}
+use Rattle.vsd_grammar.proofs.Consequences.{dead}
 use Rattle.vsd_grammar.proofs.Results.{reads_well}
 use Rattle.vsd_script.specs.declared.error.ScriptError.TheVariants.{Memory}
 use Rattle.vsd_script.specs.Errors.{told}
-use Rattle.vsd_script.specs.Answers.{StopsWith, IsFinal, anything}
+use Rattle.vsd_script.specs.Answers.{StopsWith, IsDead, anything}
 
 pub stops_with : {A : Type 0} (o : Outcome A) (s : Stop) (j : Input) → Reads {A = A} o (Err s) j → StopsWith o s
 stops_with o stop.Memory j d = tt
@@ -26,6 +27,5 @@ module _ {A : Type 0} (g : G A) (c : Decides A g anything) (i j : Input) where
   nothing_allowed tokens stop.Memory e y k d = refl
   nothing_allowed tokens (stop.Refused r) e y k d = absurd ((reads_well A g anything c i j (Err (stop.Refused r)) e).1 y k d refl)
 
-  pub final : (s : Stop) → Reads {A = A} (run A g i) (Err s) j → IsFinal g i s
-  final stop.Memory e = tt
-  final (stop.Refused r) e = (reads_well A g anything c i j (Err (stop.Refused r)) e).2
+pub is_dead : {A : Type 0} (g : G A) → Decides A g anything → (i : Input) → IsDead g i
+is_dead {A} g c i r e = λ ys x j same d f. dead A g anything c i r ys x j e same d f

@@ -2,10 +2,11 @@
 use Rattle.std.specs.Prelude.{◌≡◌, Bool, true, List, Result, Ok, Err, IfOk}
 use Rattle.vsd_text.specs.declared.tokens.Token.{Token}
 use Rattle.vsd_grammar.specs.declared.token_class.TokenClass.{TokenClass}
+use Rattle.vsd_grammar.specs.declared.syntax_error.SyntaxError.{SyntaxError}
 use Rattle.vsd_grammar.specs.declared.syntax_error.Stop.{Stop}
 use Rattle.vsd_grammar.specs.declared.syntax_error.Stop.TheVariants as stop
 use Rattle.vsd_grammar.specs.Input.{Input}
-use Rattle.vsd_grammar.specs.Grammar.{G, Outcome, Derives}
+use Rattle.vsd_grammar.specs.Grammar.{G, Outcome, run, Derives}
 use Rattle.vsd_grammar.specs.Laws.{NoOther}
 use Rattle.vsd_script.specs.declared.error.ScriptError.{ScriptError}
 use Rattle.vsd_script.specs.declared.error.ScriptError.TheVariants.{Memory}
@@ -36,10 +37,6 @@ IsOnly {A} g i result = (y : A) (k : Input) → Derives A g i y k → IsOne y re
 abbrev pub anything : TokenClass → Bool
 anything q = true
 
-abbrev pub IsFinal : {A : Type 0} → G A → Input → Stop → Type 0
-IsFinal g i stop.Memory = Unit {0}
-IsFinal {A} g i (stop.Refused r) = NoOther A g anything i r
-
-abbrev pub IsDead : {A : Type 0} → List Token → G A → Input → Result A ScriptError → Type 0
-IsDead tokens g i (Ok x) = Unit {0}
-IsDead tokens g i (Err e) = (s : Stop) × (e ≡ told tokens s) × IsFinal g i s
+-- No list of tokens that is the same up to and with the token that decided the first refusal is allowed.
+abbrev pub IsDead : {A : Type 0} → G A → Input → Type 0
+IsDead {A} g i = (r : SyntaxError) → run A g i ≡ Err r → NoOther A g anything i r

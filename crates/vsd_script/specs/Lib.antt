@@ -5,3 +5,5 @@ pub mod Errors
 pub mod Answers
 pub mod Formed
 pub mod Texts
+pub mod Named
+pub mod Counting

@@ -15,7 +15,7 @@ mod tests;
 mod texts;
 
 pub use error::ScriptError;
-pub use laws::scripts_are_decided;
+pub use laws::{scripts_are_decided, slots_are_counted};
 pub use script::{Word, read_script};
 pub use term::{ReadTerm, read_term};
 pub use texts::listed_text;

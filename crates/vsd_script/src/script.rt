@@ -10,6 +10,7 @@ ghost use Rattle.vsd_grammar.specs.Productions.{Reads};
 ghost use Rattle.vsd_lanes.specs.Types.{IsRoot};
 ghost use Rattle.vsd_script.specs.Productions as spec;
 ghost use Rattle.vsd_script.specs.Formed.{NamesMethod};
+ghost use Rattle.vsd_script.specs.Named.{HasOwnNames, CallsOnlyConcrete};
 ghost use Rattle.vsd_script.specs.Answers.{IsAnswerOf, IsFound, IsOnly, IsDead};
 
 use crate::error::{ScriptError, told};
@@ -132,12 +133,18 @@ pub fn read_script(
     // It keeps the limits, and its operations name what is there and lives.
     ensures formed { IfOk result IsWellFormedScript }
 
-    // Its terms are closed and name what is declared, and each site names a method of its interface.
+    // Sites have names of their own, and so have hosts and the variables of a lane, none of which has a host's before it.
+    ensures names { IfOk result HasOwnNames }
+
+    // Each call is made on an object of a class that isn't abstract.
+    ensures calls { IfOk result (CallsOnlyConcrete decls.now) }
+
+    // Its terms are closed and small, and name what is declared, and each site names a method of its interface.
     ensures roots { IfOk result (λ s. All (IsRoot decls.now.list) s.roots) }
     ensures slots { IfOk result (λ s. All (NamesMethod decls.now.list s.roots) s.sites) }
 
-    // After a refusal no text goes on that is the same up to and with the token that decided it.
-    ensures dead { IsDead tokens.now (spec.script decls.now) (start_of text.now tokens.now decls.now.rest []) result }
+    // After the reading's refusal no text goes on that is the same up to and with the token that decided it.
+    ensures dead { IsDead (spec.script decls.now) (start_of text.now tokens.now decls.now.rest []) }
 {
     match read(alloc, text, tokens, decls) {
         Ok(script) => Ok(script),

@@ -88,12 +88,12 @@ pub fn read_term(
     ensures found { IsFound (term_at decls.now) (start_of text.now tokens.now at []) result }
     ensures only { IsOnly (term_at decls.now) (start_of text.now tokens.now at []) result }
 
-    // It is closed and names what is declared, and the token after it is one of the text's, or their end.
+    // It is closed and small, and names what is declared, and the token after it is one of the text's, or their end.
     ensures root { IfOk result (λ read. IsRoot decls.now.list read.term) }
     ensures after { IfOk result (λ read. (at ≤ read.next) × (read.next ≤ length tokens.now)) }
 
-    // After a refusal no text goes on that is the same up to and with the token that decided it.
-    ensures dead { IsDead tokens.now (term_at decls.now) (start_of text.now tokens.now at []) result }
+    // After the reading's refusal no text goes on that is the same up to and with the token that decided it.
+    ensures dead { IsDead (term_at decls.now) (start_of text.now tokens.now at []) }
 {
     match read(alloc, text, tokens, at, decls) {
         Ok(term) => Ok(term),

@@ -1,4 +1,4 @@
-//! Tests of the first programs that the README shows of the running side.
+//! Tests of the first programs of the running side that the README and `docs/library.md` show.
 #![tactic(auto)]
 
 #[cfg(test)]

@@ -1,4 +1,4 @@
-//! The starts of the README: a runtime with its callers, and a table with handles.
+//! The starts of the README and of `docs/library.md`: a runtime with its callers, and a table with handles.
 ghost use Rattle.std.specs.Prelude.{All, IfSome};
 ghost use Rattle.vsd_table.specs.Seating.{view_of, IsNew, Belongs};
 ghost use Rattle.vsd_rule.specs.Facts.{HasBoundNone};

@@ -67,6 +67,7 @@ module _ (table : Shared) (seated : Seated) (belongs : Belongs table seated) (bu
       record {
         after = after_bucket v bucket (named_by n);
         same = record { key = refl; who = refl };
+        stepped = (_, refl, λ split. split);
         rule = load_bucket_keeps k words views rule id v at bucket small (named_by n) (named words views rule at);
         tells = found_by (after_bucket v bucket) v n (in_table words views rule at);
       })
@@ -77,6 +78,7 @@ module _ (table : Shared) (seated : Seated) (belongs : Belongs table seated) (bu
       record {
         after = after_put_bucket v bucket row (named_by n);
         same = record { key = refl; who = refl };
+        stepped = (_, refl, λ split. split);
         rule = subst (λ (q : ℕ × ℕ). Rule k (set words q.0 q.1) (set views id (after_put_bucket v bucket row (named_by n)))) (λ c. (sym there c, sym is c))
             (put_bucket_keeps k words views rule id v at bucket small row inside filled.handle filled.token filled.target filled.filled.stored filled.filled.evidence (named_by n) (named words views rule at));
         tells = found_by (after_put_bucket v bucket row) v n (in_table words views rule at);
@@ -88,6 +90,7 @@ module _ (table : Shared) (seated : Seated) (belongs : Belongs table seated) (bu
       record {
         after = after_empty_bucket v bucket (named_by n);
         same = record { key = refl; who = refl };
+        stepped = (_, refl, λ split. split);
         rule = subst (λ (i : ℕ). Rule k (set words i 0) (set views id (after_empty_bucket v bucket (named_by n)))) (sym there)
             (empty_bucket_keeps k words views rule id v at bucket small (named_by n) (named words views rule at));
         tells = found_by (after_empty_bucket v bucket) v n (in_table words views rule at);

@@ -96,6 +96,7 @@ module _ (table : Shared) (seated : Seated) (belongs : Belongs table seated) whe
     may_load_region = may_load load_region region_unique table seated index tt belongs there tt refl refl (λ words views rule at. record {
       after = after_region v (get_or words index 0);
       same = record { key = refl; who = refl };
+      stepped = (_, refl, λ split. split);
       rule = load_region_keeps k words views rule id v at (get_or words index 0);
       tells = (refl, found_lawful words views rule at);
     })
@@ -105,6 +106,7 @@ module _ (table : Shared) (seated : Seated) (belongs : Belongs table seated) whe
         (λ words views rule at found. record {
           after = after_grow v region (get_or words index 0);
           same = record { key = refl; who = refl };
+          stepped = (_, refl, λ split. split);
           rule = subst (λ (q : ℕ × ℕ). Rule k (set words q.0 q.1) (set views id (after_grow v region (get_or words index 0)))) (λ c. (sym there c, is_new c))
               (grow_keeps k words views rule id v at region (get_or words index 0) last);
           tells = (refl, found_lawful words views rule at);
@@ -112,6 +114,7 @@ module _ (table : Shared) (seated : Seated) (belongs : Belongs table seated) whe
         (λ words views rule at found. record {
           after = after_grow v region (get_or words index 0);
           same = record { key = refl; who = refl };
+          stepped = (_, refl, λ split. split);
           rule = unchanged_keeps k words views rule id v at _ (get_or words index 0);
           tells = (refl, found_lawful words views rule at);
         })
@@ -130,6 +133,7 @@ module _ (table : Shared) (seated : Seated) (belongs : Belongs table seated) whe
       may_load_version = may_load load_version version_unique table seated index x belongs there fits refl refl (λ words views rule at. record {
         after = after_version v region row (get_or words index 0);
         same = record { key = refl; who = refl };
+        stepped = (_, refl, λ split. split);
         rule = subst (λ (i : ℕ). Rule k words (set views id (after_version v region row (get_or words i 0)))) (sym there) (load_version_keeps k words views rule id v at region row small);
         tells = (refl, subst (λ (i : ℕ). get_or words i 0 ≤ 2 ^ 62) (sym there) (version_small k words views rule id v at region row small));
       })
@@ -142,6 +146,7 @@ module _ (table : Shared) (seated : Seated) (belongs : Belongs table seated) whe
           record {
             after = after;
             same = record { key = refl; who = refl };
+            stepped = (_, refl, λ split. split);
             rule = kept;
             tells = record { view = refl; agree = casts_agree k words (set views id after) kept id after (there_now views id v after at) };
           })
@@ -164,12 +169,14 @@ module _ (table : Shared) (seated : Seated) (belongs : Belongs table seated) whe
           (λ words views rule at found. record {
             after = after_claim_cast v region row (get_or words index 0);
             same = record { key = refl; who = refl };
+            stepped = (_, refl, λ split. split);
             rule = claim_won words views rule at found;
             tells = refl;
           })
           (λ words views rule at found. record {
             after = after_claim_cast v region row (get_or words index 0);
             same = record { key = refl; who = refl };
+            stepped = (_, refl, λ split. split);
             rule = claim_lost words views rule at found;
             tells = refl;
           })
@@ -179,12 +186,14 @@ module _ (table : Shared) (seated : Seated) (belongs : Belongs table seated) whe
           (λ words views rule at found. record {
             after = after_reclaim_cast v region row version (get_or words index 0);
             same = record { key = refl; who = refl };
+            stepped = (_, refl, λ split. split);
             rule = subst (λ (n : ℕ). Rule k (set words index n) (set views id (after_reclaim_cast v region row version (get_or words index 0)))) is_new (won words views rule at found);
             tells = refl;
           })
           (λ words views rule at found. record {
             after = after_reclaim_cast v region row version (get_or words index 0);
             same = record { key = refl; who = refl };
+            stepped = (_, refl, λ split. split);
             rule = lost words views rule at found;
             tells = refl;
           })
@@ -208,6 +217,7 @@ module _ (table : Shared) (seated : Seated) (belongs : Belongs table seated) whe
           (λ words views rule at. record {
             after = after_publish v region row version;
             same = record { key = refl; who = refl };
+            stepped = (_, refl, λ split. split);
             rule = subst (λ (q : ℕ × ℕ). Rule k (set words q.0 q.1) (set views id (after_publish v region row q.1))) (λ c. (sym there c, is_version c))
                 (store_version_keeps k words views rule id v at region row small w mine h y has_source has_word has);
             tells = refl;
@@ -222,6 +232,7 @@ module _ (table : Shared) (seated : Seated) (belongs : Belongs table seated) whe
           record {
             after = after;
             same = record { key = refl; who = refl };
+            stepped = (_, refl, λ split. split);
             rule = load_source_keeps k words views rule id v at region row small h (source_packing k words views rule id v at region row small);
             tells = record { packs = (h, found); view = λ g packing. ap (after_source v region row) (handle_packing-one_to_one (get_or words index 0) h g found packing) };
           })
@@ -232,6 +243,7 @@ module _ (table : Shared) (seated : Seated) (belongs : Belongs table seated) whe
           (λ words views rule at. record {
             after = after_set_source v region row h;
             same = record { key = refl; who = refl };
+            stepped = (_, refl, λ split. split);
             rule = subst (λ (i : ℕ). Rule k (set words i new) (set views id (after_set_source v region row h))) (sym there)
                 (store_source_keeps k words views rule id v at region row small w mine h target given new packing has);
             tells = refl;
@@ -246,6 +258,7 @@ module _ (table : Shared) (seated : Seated) (belongs : Belongs table seated) whe
           record {
             after = after;
             same = record { key = refl; who = refl };
+            stepped = (_, refl, λ split. split);
             rule = load_cast_keeps k words views rule id v at region row small y (word_packing k words views rule id v at region row small);
             tells = record { packs = (y, found); view = λ g packing. ap (after_cast_word v region row) (cast_packing-one_to_one (get_or words index 0) y g found packing) };
           })
@@ -256,6 +269,7 @@ module _ (table : Shared) (seated : Seated) (belongs : Belongs table seated) whe
           (λ words views rule at. record {
             after = after_set_cast v region row y;
             same = record { key = refl; who = refl };
+            stepped = (_, refl, λ split. split);
             rule = subst (λ (i : ℕ). Rule k (set words i new) (set views id (after_set_cast v region row y))) (sym there)
                 (store_cast_keeps k words views rule id v at region row small w mine source y new packing has);
             tells = refl;

@@ -74,6 +74,7 @@ module _ (table : Shared) (seated : Seated) (belongs : Belongs table seated) (si
       record {
         after = after_cell v site c;
         same = record { key = refl; who = refl };
+        stepped = (_, refl, λ split. split);
         rule = load_cell_keeps k words views rule id v at site small;
         tells = record {
           packs = (c, packing words views rule at);
@@ -92,6 +93,7 @@ module _ (table : Shared) (seated : Seated) (belongs : Belongs table seated) (si
         (λ words views rule at found. record {
           after = after_to_dispatch v site row Lookup;
           same = record { key = refl; who = refl };
+          stepped = (_, refl, λ split. split);
           rule = subst (λ (q : ℕ × ℕ). Rule k (set words q.0 q.1) (set views id (after_to_dispatch v site row Lookup))) (λ c. (sym there c, sym is_new c))
               (to_dispatch_won k words views rule id v at site small row inside filled.handle (site_token v.key site) filled.target filled.filled.stored filled.filled.evidence
               (ap (λ (q : Key). site_token q site) belongs.key) (found_there words views rule at 0 (found ∙ is_old)));
@@ -103,6 +105,7 @@ module _ (table : Shared) (seated : Seated) (belongs : Belongs table seated) (si
         record {
           after = after_to_dispatch v site row c;
           same = record { key = refl; who = refl };
+          stepped = (_, refl, λ split. split);
           rule = to_dispatch_lost k words views rule id v at site small row inside c (λ e. other (p.packed ∙ (e ∙ sym is_old)));
           tells = exchanged_by after_to_dispatch v x (get_or words index 0) c p;
         })
@@ -112,6 +115,7 @@ module _ (table : Shared) (seated : Seated) (belongs : Belongs table seated) (si
         (λ words views rule at found. record {
           after = after_to_resolve v site row (Dispatch row);
           same = record { key = refl; who = refl };
+          stepped = (_, refl, λ split. split);
           rule = subst (λ (q : ℕ × ℕ). Rule k (set words q.0 q.1) (set views id (after_to_resolve v site row (Dispatch row)))) (λ c. (sym there c, sym is_new c))
               (to_resolve_won k words views rule id v at site small row inside (found_there words views rule at (2 + row) (found ∙ is_old)));
           tells = exchanged_by after_to_resolve v x (get_or words index 0) (Dispatch row) (record { in_range = few rule; packed = found ∙ is_old });
@@ -122,6 +126,7 @@ module _ (table : Shared) (seated : Seated) (belongs : Belongs table seated) (si
         record {
           after = after_to_resolve v site row c;
           same = record { key = refl; who = refl };
+          stepped = (_, refl, λ split. split);
           rule = to_resolve_lost k words views rule id v at site small row inside c (λ e. other (p.packed ∙ (e ∙ sym is_old)));
           tells = exchanged_by after_to_resolve v x (get_or words index 0) c p;
         })
@@ -134,6 +139,7 @@ module _ (table : Shared) (seated : Seated) (belongs : Belongs table seated) (si
         (λ words views rule at found. record {
           after = after_to_lookup v site row (Dispatch row);
           same = record { key = refl; who = refl };
+          stepped = (_, refl, λ split. split);
           rule = subst (λ (q : ℕ × ℕ). Rule k (set words q.0 q.1) (set views id (after_to_lookup v site row (Dispatch row)))) (λ c. (sym there c, sym is_new c))
               (to_lookup_won k words views rule id v at site small row inside (found_there words views rule at (2 + row) (found ∙ is_old)));
           tells = exchanged_by after_to_lookup v x (get_or words index 0) (Dispatch row) (record { in_range = few rule; packed = found ∙ is_old });
@@ -144,6 +150,7 @@ module _ (table : Shared) (seated : Seated) (belongs : Belongs table seated) (si
         record {
           after = after_to_lookup v site row c;
           same = record { key = refl; who = refl };
+          stepped = (_, refl, λ split. split);
           rule = to_lookup_lost k words views rule id v at site small row inside c (λ e. other (p.packed ∙ (e ∙ sym is_old)));
           tells = exchanged_by after_to_lookup v x (get_or words index 0) c p;
         })
@@ -158,6 +165,7 @@ may_count table seated belongs token index small there = may_add count count_uni
     record {
       after = after_count v token n;
       same = record { key = refl; who = refl };
+      stepped = (_, refl, λ split. split);
       rule = subst (λ (i : ℕ). Rule (key_of table) (set words i ((n + 1) % 2 ^ 64)) (set views seated.seat.id (after_count v token n))) (sym there)
           (count_keeps (key_of table) words views rule seated.seat.id v at token ((n + 1) % 2 ^ 64) n small);
       tells = refl;

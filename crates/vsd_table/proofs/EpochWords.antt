@@ -46,6 +46,7 @@ module _ (table : Shared) (seated : Seated) (belongs : Belongs table seated) whe
       record {
         after = after_epoch v (get_or words 0 0);
         same = record { key = refl; who = refl };
+        stepped = (_, refl, λ split. split);
         rule = subst (λ (e : ℕ). Rule k words (set views id (after_epoch v e))) found (load_epoch_keeps k words views rule id v at);
         tells = record { view = refl; small = let small = epoch_small k words views rule id v at in omega arith };
       })
@@ -58,6 +59,7 @@ module _ (table : Shared) (seated : Seated) (belongs : Belongs table seated) whe
     may_pin epoch new is loaded = may_store pin pin_unique table seated index (record { caller = caller; epoch = epoch }) belongs there tt new is refl (λ words views rule at. record {
       after = after_pin v epoch;
       same = record { key = refl; who = refl };
+      stepped = (_, refl, λ split. split);
       rule = let kept = pin_keeps k words views rule seated.seat.id v at caller epoch who loaded in
           subst (λ (q : ℕ × ℕ). Rule k (set words q.0 q.1) (set views seated.seat.id (after_pin v epoch))) (λ c. (sym there c, is c)) kept;
       tells = refl;
@@ -71,6 +73,7 @@ module _ (table : Shared) (seated : Seated) (belongs : Belongs table seated) whe
         record {
           after = after;
           same = record { key = refl; who = refl };
+          stepped = (_, refl, λ split. split);
           rule = kept;
           tells = record { view = refl; agree = calls_agree k (set words index 0) (set views id after) kept id after (there_now views id v after at) };
         })

@@ -55,6 +55,7 @@ module _ (table : Shared) (seated : Seated) (belongs : Belongs table seated) (ro
       record {
         after = after;
         same = record { key = refl; who = refl };
+        stepped = (_, refl, λ split. split);
         rule = kept;
         tells = record {
           packs = (w, found);
@@ -77,6 +78,7 @@ module _ (table : Shared) (seated : Seated) (belongs : Belongs table seated) (ro
         record {
           after = after;
           same = record { key = refl; who = refl };
+          stepped = (_, refl, λ split. split);
           rule = kept;
           tells = record {
             view = refl;
@@ -95,6 +97,7 @@ module _ (table : Shared) (seated : Seated) (belongs : Belongs table seated) (ro
         record {
           after = after;
           same = record { key = refl; who = refl };
+          stepped = (_, refl, λ split. split);
           rule = kept;
           tells = record { view = refl; one_binding = tells_one_binding k (set words index new) (set views id after) kept id after (there_now views id v after at) };
         })

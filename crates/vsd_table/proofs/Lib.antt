@@ -1,4 +1,5 @@
 -- Lemmas that several proofs of this crate share.
+pub mod Consistent
 pub mod Kept
 pub mod Powers
 pub mod HandleWords
@@ -10,3 +11,4 @@ pub mod LimboWords
 pub mod Seats
 pub mod Laid
 pub mod CastWords
+pub mod Opened

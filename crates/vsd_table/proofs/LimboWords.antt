@@ -56,6 +56,7 @@ module _ (table : Shared) (seated : Seated) (belongs : Belongs table seated) whe
       record {
         after = after_epoch_to_retire v row (get_or words 0 0);
         same = record { key = refl; who = refl };
+        stepped = (_, refl, λ split. split);
         rule = subst (λ (e : ℕ). Rule k words (set views id (after_epoch_to_retire v row e))) found (epoch_to_retire_keeps k words views rule id v at row small mine room);
         tells = record { view = refl; small = let small = epoch_small k words views rule id v at in omega arith };
       })
@@ -65,12 +66,14 @@ module _ (table : Shared) (seated : Seated) (belongs : Belongs table seated) whe
       (λ words views rule at found. record {
         after = after_raise v epoch epoch;
         same = record { key = refl; who = refl };
+        stepped = (_, refl, λ split. split);
         rule = subst (λ (x : ℕ). Rule k (set words 0 x) (set views id (after_raise v epoch epoch))) (sym is) (raise_won k words views rule id v at epoch small found);
         tells = ap (after_raise v epoch) (sym found);
       })
       (λ words views rule at other. record {
         after = after_raise v epoch (get_or words 0 0);
         same = record { key = refl; who = refl };
+        stepped = (_, refl, λ split. split);
         rule = raise_lost k words views rule id v at epoch (get_or words 0 0);
         tells = refl;
       })
@@ -79,6 +82,7 @@ module _ (table : Shared) (seated : Seated) (belongs : Belongs table seated) whe
   may_load_epoch_of caller index there small = may_load epoch_of epoch_of_unique table seated index caller belongs there tt refl refl (λ words views rule at. record {
     after = after_epoch_of v caller (get_or words index 0);
     same = record { key = refl; who = refl };
+    stepped = (_, refl, λ split. split);
     rule = subst (λ (i : ℕ). Rule k words (set views id (after_epoch_of v caller (get_or words i 0)))) (sym there) (epoch_of_caller_keeps k words views rule id v at caller small);
     tells = refl;
   })
@@ -87,6 +91,7 @@ module _ (table : Shared) (seated : Seated) (belongs : Belongs table seated) whe
   may_free_swept row index there oldest passed = may_store free_swept free_unique table seated index row belongs there tt 0 refl refl (λ words views rule at. record {
     after = after_free_swept v row;
     same = record { key = refl; who = refl };
+    stepped = (_, refl, λ split. split);
     rule = subst (λ (i : ℕ). Rule k (set words i 0) (set views id (after_free_swept v row))) (sym there)
         (free_oldest_keeps k words views rule id v at (record { row = row; epoch = oldest.epoch }) oldest.others oldest.queue passed);
     tells = refl;

@@ -78,6 +78,7 @@ module _ (table : Shared) (seated : Seated) (belongs : Belongs table seated) (ro
     may_load_row_word = may_load load_row_word load_unique table seated index (record { row = row; which = which }) belongs there tt refl refl (λ words views rule at. record {
       after = after_row_word v row which (get_or words index 0);
       same = record { key = refl; who = refl };
+      stepped = (_, refl, λ split. split);
       rule = subst (λ (i : ℕ). Rule k words (set views id (after_row_word v row which (get_or words i 0)))) (sym there) (row_word_keeps k words views rule id v at row small which);
       tells = record {
         view = refl;
@@ -92,6 +93,7 @@ module _ (table : Shared) (seated : Seated) (belongs : Belongs table seated) (ro
         (λ words views rule at found. record {
           after = after_claim v row 0;
           same = record { key = refl; who = refl };
+          stepped = (_, refl, λ split. split);
           rule = subst (λ (i : ℕ). Rule k (set words i 1) (set views id (after_claim v row 0))) (sym there)
               (claim_won k words views rule id v at row small (ap (λ (i : ℕ). get_or words i 0) (sym there) ∙ found));
           tells = record { view = ap (after_claim v row) (sym found); in_range = omega arith };
@@ -99,6 +101,7 @@ module _ (table : Shared) (seated : Seated) (belongs : Belongs table seated) (ro
         (λ words views rule at other. record {
           after = after_claim v row (get_or words index 0);
           same = record { key = refl; who = refl };
+          stepped = (_, refl, λ split. split);
           rule = claim_lost k words views rule id v at row small (get_or words index 0) other;
           tells = record { view = refl; in_range = subst (λ (i : ℕ). get_or words i 0 < 2) (sym there) (found_in_range k words views rule id v at row small Claim) };
         })
@@ -107,6 +110,7 @@ module _ (table : Shared) (seated : Seated) (belongs : Belongs table seated) (ro
     may_free private = may_store free free_unique table seated index row belongs there tt 0 refl refl (λ words views rule at. record {
       after = after_free v row;
       same = record { key = refl; who = refl };
+      stepped = (_, refl, λ split. split);
       rule = subst (λ (i : ℕ). Rule k (set words i 0) (set views id (after_free v row))) (sym there) (free_row_keeps k words views rule id v at row small private.0 private.1);
       tells = refl;
     })
@@ -116,6 +120,7 @@ module _ (table : Shared) (seated : Seated) (belongs : Belongs table seated) (ro
       may_store set_handle set_handle_unique table seated index (record { row = row; handle = h }) belongs there packing.in_range x (sym packing.packed) refl (λ words views rule at. record {
         after = after_set_handle v row h;
         same = record { key = refl; who = refl };
+        stepped = (_, refl, λ split. split);
         rule = subst (λ (i : ℕ). Rule k (set words i x) (set views id (after_set_handle v row h))) (sym there)
             (set_handle_keeps k words views rule id v at row small private.0 private.1 h x evidence.0 evidence.1 packing evidence.2);
         tells = refl;
@@ -125,6 +130,7 @@ module _ (table : Shared) (seated : Seated) (belongs : Belongs table seated) (ro
   may_set_token token x is there fits private = may_store set_token set_token_unique table seated index (record { row = row; number = token }) belongs there tt x (sym is) refl (λ words views rule at. record {
     after = after_set_token v row token;
     same = record { key = refl; who = refl };
+    stepped = (_, refl, λ split. split);
     rule = subst (λ (q : ℕ × ℕ). Rule k (set words q.0 q.1) (set views id (after_set_token v row token))) (λ c. (sym there c, sym is c)) (set_token_keeps k words views rule id v at row small private.0 private.1 token fits);
     tells = refl;
   })
@@ -133,6 +139,7 @@ module _ (table : Shared) (seated : Seated) (belongs : Belongs table seated) (ro
   may_set_target target x is there fits private = may_store set_target set_target_unique table seated index (record { row = row; number = target }) belongs there tt x (sym is) refl (λ words views rule at. record {
     after = after_set_target v row target;
     same = record { key = refl; who = refl };
+    stepped = (_, refl, λ split. split);
     rule = subst (λ (q : ℕ × ℕ). Rule k (set words q.0 q.1) (set views id (after_set_target v row target))) (λ c. (sym there c, sym is c)) (set_target_keeps k words views rule id v at row small private.0 private.1 target fits);
     tells = refl;
   })

@@ -31,7 +31,7 @@ pub packs_own : (live : Bool) (w : HandleWord) (x generation number : ℕ) → w
 packs_own live w x generation number is in_range packed = subst (λ (z : HandleWord). IsHandleWordPacking z x) is (record { in_range = in_range; packed = packed })
 
 -- a seat that is there is below the number of seats
-below : {A : Type 0} (l : List A) (i : ℕ) (a : A) → get_elem? l i ≡ some a → i < length l
+pub below : {A : Type 0} (l : List A) (i : ℕ) (a : A) → get_elem? l i ≡ some a → i < length l
 below [] i a at = absurd (some-ne-none a (sym at))
 below (x ∷ xs) zero a at = omega arith
 below (x ∷ xs) (suc i) a at = let h = below xs i a at in omega arith

@@ -1,5 +1,6 @@
 -- What contracts of this crate cite.
 pub mod Offsets
+pub mod Consistent
 pub mod StepKind
 pub mod HandleKinds
 pub mod EpochKinds
@@ -10,3 +11,4 @@ pub mod LimboKinds
 pub mod Seating
 pub mod Stepping
 pub mod CastKinds
+pub mod Opened

@@ -4,6 +4,7 @@ use Rattle.atomic_table.specs.Table.{Step, Me}
 use Rattle.vsd_rule.specs.declared.sizes.Sizes.{Sizes}
 use Rattle.vsd_rule.specs.declared.view.View.{View}
 use Rattle.vsd_rule.specs.Facts.{SmallEpoch}
+use Rattle.vsd_table.specs.Consistent.{IsConsistent}
 
 pub record Kind : Type 1 where
   -- what a step of this kind is given
@@ -27,6 +28,6 @@ abbrev pub Learns : Kind → Sizes → ℕ → ℕ → ℕ → View → ℕ → 
 Learns kind sizes index first second before found after =
     (x : kind.Given) → index ≡ kind.word sizes x → first ≡ kind.first x → second ≡ kind.second x → kind.Fits before x → kind.Tells before x found after
 
--- the seat stays whose it is, what it has loaded of the epoch is small, and the step tells
+-- the seat stays whose it is, what it has loaded of the epoch is small, all that it knows agrees, and the step tells
 abbrev pub made : Kind → {S : Type 0} → Step S → Me S View → ℕ → Me S View → Type 0
-made kind st before found after = SameSeat before.0 after.0 × SmallEpoch after.0 × Learns kind before.0.key.sizes st.word st.first st.second before.0 found after.0
+made kind st before found after = SameSeat before.0 after.0 × SmallEpoch after.0 × IsConsistent after.0 × Learns kind before.0.key.sizes st.word st.first st.second before.0 found after.0

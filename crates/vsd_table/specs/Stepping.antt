@@ -4,7 +4,7 @@ use mathlib.Core.Option.{none}
 use prog.Atomic.{either}
 use Rattle.atomic_table.specs.Table.{State, Me, step, Allows}
 use Rattle.vsd_rule.specs.declared.view.View.{View}
-use Rattle.vsd_rule.specs.Rule.{Rule}
+use Rattle.vsd_table.specs.Opened.{Ruled}
 use Rattle.vsd_table.specs.StepKind.{Kind, made}
 use Rattle.vsd_table.specs.Seating.{key_of}
 use Rattle.vsd_table.specs.declared.shared.Shared.{Shared}
@@ -23,7 +23,7 @@ pub record StaysSeat (old new : Seated) : Type 0 where
 -- a step of the kind that makes of the word at the index what the function gives keeps the rule, and tells what its kind says
 abbrev pub May : Kind → Shared → Seated → ℕ → (ℕ → ℕ) → (ℕ → Me (Unit {0}) View → Type 0) → Type 0
 May kind table seated index becomes tells =
-    Allows (λ (s : State (Unit {0}) View). Rule (key_of table) s.words s.views) table.table.shared.table_id.slots seated.seat.id seated.seat.me index becomes tells
+    Allows (λ (s : State (Unit {0}) View). Ruled (key_of table) s.words s.views) table.table.shared.table_id.slots seated.seat.id seated.seat.me index becomes tells
 
 module _ (kind : Kind) (table : Shared) (seated : Seated) (index : ℕ) where
   abbrev slots : ℕ

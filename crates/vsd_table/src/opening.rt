@@ -9,6 +9,7 @@ ghost use Rattle.vsd_rule.specs.Lists.{LawfulKey, key_with};
 ghost use Rattle.vsd_rule.specs.Moves.{root_view, after_split, split_off};
 ghost use Rattle.vsd_rule.specs.Opening.{host_packing};
 ghost use Rattle.vsd_table.specs.Seating.{key_of, view_of, IsNew, AreNumbered};
+ghost use Rattle.vsd_table.specs.Opened.{IsOpened};
 ghost use Rattle.vsd_table.specs.declared.seated.Seated.{Seated};
 
 use crate::offsets::Offsets;
@@ -41,8 +42,8 @@ struct Embedder<'a, R> {
 /// `sites` has the token of each call site, and `hosts` the number of each host's type. The world
 /// that answers calls and casts is the resolver's: tokens are below its count of tokens, and types
 /// below its count of types. At opening all cells are at Lookup, all rows free, all buckets empty,
-/// all counters, versions and the epoch 0, and the hosts' handles live at generation 1. The error is
-/// want of memory.
+/// all counters, versions and the epoch 0, and the hosts' handles live at generation 1: until a caller
+/// makes its first step, all words are 0 but for the hosts' (`opened`). The error is want of memory.
 pub fn layout<R: Resolver>(
     alloc: Global,
     sizes: Sizes,
@@ -60,6 +61,7 @@ pub fn layout<R: Resolver>(
     ensures count { IfOk result (λ made. length made.1.items ≡ sizes.callers) }
     ensures seats { IfOk result (λ made. All (IsNew made.0) made.1.items) }
     ensures numbers { IfOk result (λ made. AreNumbered made.1.items) }
+    ensures opened { IfOk result (λ made. IsOpened made.0) }
 {
     let world = World::of(&Embedder {
         resolver,

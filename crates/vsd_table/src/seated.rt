@@ -3,12 +3,13 @@ ghost use Rattle.std.specs.Prelude.{◌≡◌, ◌<◌, ◌≤◌, ◌+◌, true
 ghost use Rattle.vsd_rule.specs.Layout.{first_row, handle_rows};
 ghost use Rattle.vsd_rule.specs.Facts.{SmallEpoch};
 ghost use Rattle.vsd_rule.specs.Seats.{caller_of, is_caller};
+ghost use Rattle.vsd_table.specs.Consistent.{IsConsistent};
 
 use atomic_table::Seat;
 use vsd_rule::{Begun, View};
 
 /// The seat of a caller, through which it makes its steps on the table. What the caller knows is
-/// its view, which contracts alone see.
+/// its view, which contracts alone see. All that it knows agrees.
 #[derive(Drop)]
 pub struct Seated {
     pub(crate) seat: Seat<(), View>,
@@ -20,6 +21,7 @@ pub struct Seated {
     ghost in_range: { caller < seat.me.0.key.sizes.callers },
     ghost its_rows: { first ≡ first_row seat.me.0.key.sizes caller },
     ghost small_epoch: { SmallEpoch seat.me.0 },
+    ghost consistent: { IsConsistent seat.me.0 },
 }
 
 impl Seated {

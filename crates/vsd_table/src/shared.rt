@@ -13,14 +13,14 @@ use std::alloc::Global;
 use vsd_rule::{Key, RowWord, Sizes, View};
 use vsd_words::CellWord;
 
-/// The rule of `vsd_rule`, as the rule of a table.
+/// The rule of `vsd_rule`, as the rule of a table that began with the words of opening.
 pub(crate) struct SharedRule;
 
 impl TableRule<(), View, Key> for SharedRule {
-    ghost use Rattle.vsd_rule.specs.Rule.{Rule};
     ghost use Rattle.vsd_rule.specs.Moves.{root_view};
+    ghost use Rattle.vsd_table.specs.Opened.{Ruled};
 
-    ghost holds = { λ key s. Rule key s.words s.views };
+    ghost holds = { λ key s. Ruled key s.words s.views };
 
     ghost first = { root_view };
 }

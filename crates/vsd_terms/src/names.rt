@@ -1,5 +1,5 @@
 //! Type names, numbered in the order in which they are first seen.
-ghost use Rattle.std.specs.Prelude.{◌≡◌, ◌↔◌, ◌<◌, [], ◌∷◌, ◌++◌, length, slice_get, Contains, IsTrue, IsSome, IfOk, IfSome, OnErr, OnOk};
+ghost use Rattle.std.specs.Prelude.{◌≡◌, ◌↔◌, ◌<◌, [], ◌∷◌, ◌++◌, length, slice_get, Contains, IsTrue, IsSome, IfErr, IfOk, IfSome, OnErr, OnOk};
 ghost use Rattle.vsd_terms.specs.Names.{AreNames, AddsName};
 
 use indexmap::IndexSet;
@@ -96,6 +96,8 @@ impl Names {
 
         ensures full { (result ≡ Err NamesError.Full)
             ↔ (¬ Contains self.old name.now) × (length self.old ≡ Names.MOST) }
+        // So of a name that is there memory isn't asked for.
+        ensures refused { IfErr result (λ e. ¬ Contains self.old name.now) }
         ensures err { OnErr result (self.new ≡ self.old) }
     {
         if let Some(number) = self.find(name) {

@@ -80,7 +80,7 @@ fn each_refusal_stands_at_its_line(rt: HostRuntime) -> Result<(), Fail> {
             Some(CheckError::Cycle { line: 3 }),
         ),
         (
-            b".class interface abstract I implements C { }\n.class C extends I { }",
+            b".class interface abstract I implements J { }\n.class interface abstract J implements I { }",
             Some(CheckError::Cycle { line: 2 }),
         ),
         (
@@ -142,6 +142,54 @@ fn each_refusal_stands_at_its_line(rt: HostRuntime) -> Result<(), Fail> {
         (
             b".class A {\n.method virtual void N() {\n.override object::M } }",
             Some(CheckError::OverrideUnknown { line: 4 }),
+        ),
+    ];
+    for (text, expected) in cases {
+        assert_eq!(rt; refusal(rt.alloc(), b"\n", text)?, expected);
+    }
+    Ok(())
+}
+
+/// A class and an interface that lead to each other are no cycle: the first line counts at which a base is an interface, or
+/// what is named as an interface is a class. A cycle beside them is one.
+#[test]
+fn a_cycle_is_of_one_kind(rt: HostRuntime) -> Result<(), Fail> {
+    let cases: [(&[u8], Option<CheckError>); 9] = [
+        (
+            b".class interface abstract I implements C { }\n.class C extends I { }",
+            Some(CheckError::BadInterface { line: 2 }),
+        ),
+        (
+            b".class interface abstract I\nimplements C { }\n.class C extends I { }",
+            Some(CheckError::BadInterface { line: 3 }),
+        ),
+        (
+            b".class C extends I { }\n.class interface abstract I implements C { }",
+            Some(CheckError::BadBase { line: 2 }),
+        ),
+        (
+            b".class interface abstract I implements C { } .class C extends I { }",
+            Some(CheckError::BadBase { line: 2 }),
+        ),
+        (
+            b".class interface abstract I implements J { }\n.class interface abstract J implements C { }\n.class C extends I { }",
+            Some(CheckError::BadInterface { line: 3 }),
+        ),
+        (
+            b".class interface abstract I implements\nC { }\n.class C implements I { }",
+            Some(CheckError::BadInterface { line: 3 }),
+        ),
+        (
+            b".class C extends I { }\n.class interface abstract I extends C { }",
+            Some(CheckError::BadBase { line: 2 }),
+        ),
+        (
+            b".class interface abstract I implements C, J { }\n.class interface abstract J implements I { }\n.class C extends I { }",
+            Some(CheckError::Cycle { line: 2 }),
+        ),
+        (
+            b".class C extends I { }\n.class interface abstract I implements C, I { }",
+            Some(CheckError::BadBase { line: 2 }),
         ),
     ];
     for (text, expected) in cases {

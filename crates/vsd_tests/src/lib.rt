@@ -6,4 +6,6 @@ mod builtin_types;
 #[cfg(test)]
 mod checking;
 #[cfg(test)]
+mod names;
+#[cfg(test)]
 mod scripts;

@@ -7,7 +7,7 @@ use Rattle.vsd_words.specs.Hash.{bucket_of}
 use Rattle.vsd_rule.specs.declared.key.Key.{Key}
 use Rattle.vsd_rule.specs.declared.row_view.RetiredRow.{RetiredRow}
 use Rattle.vsd_rule.specs.declared.step.Act.{Act}
-use Rattle.vsd_rule.specs.declared.step.Act.TheVariants.{LoadCell, LoadBucket, LoadHandle}
+use Rattle.vsd_rule.specs.declared.step.Act.TheVariants.{Unpin, LoadCell, LoadBucket, LoadHandle}
 use Rattle.vsd_rule.specs.declared.step.Doing.{Doing}
 use Rattle.vsd_rule.specs.declared.step.Doing.TheVariants.{Call}
 use Rattle.vsd_rule.specs.Lists.{site_token}
@@ -21,6 +21,7 @@ use Rattle.vsd_trails.specs.Words.{unpacked_cell, unpacked_bucket}
 use Rattle.vsd_trails.specs.RowTrails.{pinning, unpinning, claiming_row, claiming_from, claiming, filling, seeing_room, retiring, retiring_any, passing, sweeping_oldest, sweeping, unlinking, reading_cell, looking}
 use Rattle.vsd_trails.specs.CallTrails.{finding_in, finding, caching_in, caching, Stubbed, stub_hit, stub_miss, patching, stubbing, installing_in, installing, walking_by, walking, resolving_by, answering_by, answering, calling}
 use Rattle.vsd_trails.specs.Laws.{TwoRuns}
+use Rattle.vsd_trails.specs.Attempts.{BeginsBy}
 use Rattle.vsd_trails.proofs.Runs.{splits, makes_only, after_steps-append}
 use Rattle.vsd_trails.proofs.Asking.{Only, nothing, one, sees, and_then, either, only_weaker}
 use Rattle.vsd_trails.proofs.Loads.{one_load, nothing_run, each_append}
@@ -174,6 +175,7 @@ module _ (k : Key) (site : ℕ) (h : Handle) where
     pub looks_others : EachStep Others looks
     pub later_run : Runs k at_later (answering_by k site h (unpacked_cell cell.step.found) stubbed) later answer
     pub ends_others : EachStep Others ends
+    pub unpins : BeginsBy Unpin ends
     pub later_fields : at_later ≡ after_steps k f (pins ++ cell ∷ looks)
 
   answering_parts : (f : Fields) (cell : CellWord) (trail : List TrailStep) (answer : Result Answer Unloaded) → Runs k f (answering k site h cell) trail answer
@@ -185,10 +187,11 @@ module _ (k : Key) (site : ℕ) (h : Handle) where
   leaving : Result Answer Unloaded → Program (Result Answer Unloaded)
   leaving answer = bind unpinning (λ u. bind (sweeping k) (λ swept. done answer))
 
-  leaves : (f : Fields) (given : Result Answer Unloaded) (xs : List TrailStep) (answer : Result Answer Unloaded) → Runs k f (leaving given) xs answer → EachStep Others xs × (given ≡ answer)
+  leaves : (f : Fields) (given : Result Answer Unloaded) (xs : List TrailStep) (answer : Result Answer Unloaded) → Runs k f (leaving given) xs answer → EachStep Others xs × (given ≡ answer) × BeginsBy Unpin xs
   unfolding leaving
   leaves f given xs answer runs =
       let d = splits k f unpinning _ xs answer runs in
+      let unpin = one_load k f Unpin None (λ word. tt) d.prefix d.answer tt d.first in
       let g = after_steps k f d.prefix in
       let e = splits k g (sweeping k) _ d.rest answer d.second in
       let end = nothing_run k (after_steps k g e.prefix) e.rest given answer e.second in
@@ -197,6 +200,7 @@ module _ (k : Key) (site : ℕ) (h : Handle) where
         subst (EachStep Others) (sym same) (each_append Others d.prefix (e.prefix ++ e.rest) (makes_only Others k f unpinning d.prefix d.answer (tt, λ word. tt) d.first)
             (each_append Others e.prefix e.rest (makes_only Others k g (sweeping k) e.prefix e.answer (sweeping_others k).only e.first) no_more)),
         end.1,
+        record { first = unpin.step; after = d.rest; whole = d.whole ∙ ap (λ (l : List TrailStep). l ++ d.rest) unpin.is; first_is = unpin.act_is },
       )
 
   -- from the answering on
@@ -224,6 +228,7 @@ module _ (k : Key) (site : ℕ) (h : Handle) where
         later_run = subst (λ (w : CellWord). Runs k (after_steps k f s.prefix) (answering_by k site h w s.answer) s.rest answer) (sym reads)
             (subst (Runs k (after_steps k f s.prefix) (answering_by k site h cell s.answer) s.rest) end.1 s.second);
         ends_others = end.0;
+        unpins = end.2;
         later_fields = refl;
       }
 
@@ -258,6 +263,7 @@ module _ (k : Key) (site : ℕ) (h : Handle) where
         looks_others = p.looks_others;
         later_run = p.later_run;
         ends_others = p.ends_others;
+        unpins = p.unpins;
         later_fields = p.later_fields ∙ (sym (after_steps-append k f a.prefix (p.pins ++ p.cell ∷ p.looks)) ∙ ap (after_steps k f) (sym (append_assoc a.prefix p.pins (p.cell ∷ p.looks))));
       }
 

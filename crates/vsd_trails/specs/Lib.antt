@@ -10,4 +10,5 @@ pub mod Operations
 pub mod Logs
 pub mod CallPaths
 pub mod Attempts
+pub mod Following
 pub mod CastPaths

@@ -44,7 +44,7 @@ pub struct CastAnswer {
 
 /// The handle names no type now: its handle row has another generation, or is not live.
 #[derive(Clone, Copy, PartialEq, Eq, Debug, Error)]
-#[error("the handle's type is unloaded")]
+#[error("{handle:?} names no type now: its handle word is {found:?}")]
 pub struct Unloaded {
     pub handle: Handle,
     /// The handle word that was loaded.

@@ -18,7 +18,9 @@ ghost use Rattle.vsd_trails.specs.Operations.{called, cast_to, loaded, unloaded}
 ghost use Rattle.vsd_trails.specs.Laws.{HasOneLog, AddsEntry, AddsNothing, TakesAtMost};
 ghost use Rattle.vsd_trails.specs.CallPaths.{InTurn, PathTells, ShowsUnloaded, HoldsPair};
 ghost use Rattle.vsd_trails.specs.CastPaths.{CastAnswerTells, HasNoHit, HoldsCast};
-ghost use Rattle.vsd_trails.specs.Attempts.{TriesBucket, TriesCell, SweepsAtEnd, PurgesCell, PurgesBucket};
+ghost use Rattle.vsd_trails.specs.Attempts.{TriesBucket, TriesByPath, SweepsAtEnd, PurgesCell, PurgesBucket};
+ghost use Rattle.vsd_trails.specs.Following.{SetsResolve, RetiresRows, RaisesEpoch};
+ghost use Rattle.vsd_rule.specs.Sizes.{LawfulSizes};
 
 /// A list of steps has at most one log.
 pub fn has_one_log()
@@ -77,13 +79,14 @@ pub fn hits_exactly()
         is_hit source target version s w again ≡ true ↔ HoldsCast source target version s w again }
 {}
 
-/// What a call tries besides. A walk swaps its pair into the pair's bucket, but where limbo has no room or no row is given.
-/// A call that loaded Lookup and was answered tries to install its pair in the cell, but where no row is given.
+/// What a call tries besides. A walk swaps its pair into the pair's bucket, but where limbo has no room or no row is given,
+/// right after it loaded the handle word. A call that loaded Lookup and was answered tries to install its pair in the cell,
+/// but where no row is given, right before its unpin. A walk that loaded Lookup does both, the one after the other.
 pub fn tries_rows()
     ensures bucket { (k : Key) (site : ℕ) (h : Handle) (f : Fields) (trail : List TrailStep) (target : ℕ) (seen : Seen) →
         Runs k f (calling k site h) trail (by_walk target seen) → TriesBucket k site h target f trail }
     ensures cell { (k : Key) (site : ℕ) (h : Handle) (f : Fields) (trail : List TrailStep) (a : Answer) →
-        InTurn trail ((LoadCell site, 0) ∷ []) → Runs k f (calling k site h) trail (Ok a) → TriesCell k site h a.target f trail }
+        InTurn trail ((LoadCell site, 0) ∷ []) → Runs k f (calling k site h) trail (Ok a) → TriesByPath k site h a.target f trail a.path }
 {}
 
 /// How a call and an unload end. With a row in limbo at the unpin, the last step frees the oldest or is the load of an epoch
@@ -102,4 +105,29 @@ pub fn purges_all()
         site < k.sizes.sites → Runs k f (unloading k h) trail tt → PurgesCell k h site f trail }
     ensures buckets { (k : Key) (h : Handle) (f : Fields) (trail : List TrailStep) (bucket : ℕ) →
         bucket < k.sizes.buckets → Runs k f (unloading k h) trail tt → PurgesBucket k h bucket f trail }
+{}
+
+/// When a call sets its cell to Resolve: right after each miss with which the token's count reaches the limit (`miss` of the
+/// sizes, or more) while limbo has room for two rows, and nowhere else. A miss is one fetch and add on the counter of the
+/// site's token, which finds how many were counted before.
+pub fn sets_resolve()
+    ensures { (k : Key) (site : ℕ) (h : Handle) (f : Fields) (trail : List TrailStep) (answer : Result Answer Unloaded) →
+        LawfulSizes k.sizes → Runs k f (calling k site h) trail answer → SetsResolve k site trail }
+{}
+
+/// Which rows enter limbo: right after an exchange or a swap took a row out of its cell or bucket, that row, and no other.
+pub fn retires_rows()
+    ensures call { (k : Key) (site : ℕ) (h : Handle) (f : Fields) (trail : List TrailStep) (answer : Result Answer Unloaded) →
+        Runs k f (calling k site h) trail answer → RetiresRows trail }
+    ensures unload { (k : Key) (h : Handle) (f : Fields) (trail : List TrailStep) →
+        Runs k f (unloading k h) trail tt → RetiresRows trail }
+{}
+
+/// When the epoch is raised: right after a row entered limbo at an epoch below 2^62, by one exchange from that epoch to the
+/// next, and nowhere else.
+pub fn raises_epoch()
+    ensures call { (k : Key) (site : ℕ) (h : Handle) (f : Fields) (trail : List TrailStep) (answer : Result Answer Unloaded) →
+        Runs k f (calling k site h) trail answer → RaisesEpoch trail }
+    ensures unload { (k : Key) (h : Handle) (f : Fields) (trail : List TrailStep) →
+        Runs k f (unloading k h) trail tt → RaisesEpoch trail }
 {}

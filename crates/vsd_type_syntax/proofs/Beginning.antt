@@ -1,12 +1,10 @@
 -- What a type begins with.
-use Rattle.std.proofs.Common.{◌≡◌, ℕ, zero, suc, Bool, true, false, cond, List, length, eqb, Option, Some, None, Result, Ok, Err, refl, ap, sym, subst, ◌∙◌}
+use Rattle.std.proofs.Common.{◌≡◌, ℕ, zero, suc, Bool, true, false, cond, length, eqb, Some, None, refl, ap, sym, subst, ◌∙◌}
 use Rattle.vsd_terms.specs.declared.term.Term.{Term}
-use Rattle.vsd_grammar.specs.declared.token_class.TokenClass.{TokenClass}
-use Rattle.vsd_grammar.specs.declared.cause.Cause.{Cause}
 use Rattle.vsd_grammar.specs.declared.cause.Cause.TheVariants.{Unexpected}
-use Rattle.vsd_grammar.specs.Input.{Input, Lookahead, class_at, bytes_at, lookahead_of}
+use Rattle.vsd_grammar.specs.Input.{Input, class_at, bytes_at}
 use Rattle.vsd_grammar.specs.Grammar.{G, Derives, tried}
-use Rattle.vsd_grammar.specs.Productions.{is_name, checked, name_by, spelled_name, no_nodes}
+use Rattle.vsd_grammar.specs.Productions.{is_name, no_nodes}
 use Rattle.vsd_grammar.proofs.Spelling.{spelled_some}
 use Rattle.vsd_type_syntax.specs.declared.starts.Start.{Start}
 use Rattle.vsd_type_syntax.specs.declared.starts.Start.TheVariants as start

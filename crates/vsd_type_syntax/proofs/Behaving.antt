@@ -1,15 +1,12 @@
 -- How types behave: their causes, and that no name is forgotten.
-use Rattle.std.proofs.Common.{ℕ, zero, suc, Bool, true, false, IsTrue, List, [], length, Option, Some, None, Result, IfErr, IfSome}
+use Rattle.std.proofs.Common.{ℕ, zero, suc, Bool, true, false, cond, eqb, IsTrue, List, [], length, Option, Some, None, IfSome}
 use Rattle.vsd_terms.specs.declared.term.Term.{Term}
 use Rattle.vsd_terms.specs.declared.term.Term.TheVariants as term
 use Rattle.vsd_terms.specs.declared.term.Builtin.{Builtin}
 use Rattle.vsd_grammar.specs.declared.cause.Cause.{Cause}
-use Rattle.vsd_grammar.specs.declared.cause.Cause.TheVariants.{Unexpected, Unsupported, TooMany, TooDeep}
-use Rattle.vsd_grammar.specs.declared.cause.Counted.TheVariants as limit
+use Rattle.vsd_grammar.specs.declared.cause.Cause.TheVariants.{Unexpected}
 use Rattle.vsd_grammar.specs.declared.cause.Form.{Form}
-use Rattle.vsd_grammar.specs.declared.keyword.Keyword.{Keyword}
-use Rattle.vsd_grammar.specs.declared.token_class.TokenClass.{TokenClass}
-use Rattle.vsd_grammar.specs.Input.{State, Lookahead, same_class}
+use Rattle.vsd_grammar.specs.Input.{Lookahead, same_class}
 use Rattle.vsd_grammar.specs.Grammar.{G}
 use Rattle.vsd_grammar.specs.Productions.{is_name}
 use Rattle.vsd_grammar.specs.Laws.{Behaves}
@@ -90,8 +87,12 @@ module _ (test : Cause → Bool) (p : TypesPass test) where
       unfolding spec.named
       causes_named scoped = (tt, λ h. go h (is_name h.class))
         where
+          foreign : (empty : Bool) (bytes : List ℕ) → IsTrue (test (cond empty Unexpected (rules.foreign bytes)))
+          foreign true bytes = p.unexpected
+          foreign false bytes = r.foreign bytes
+
           other : (b : Bool) (h : Lookahead) → Behaves test grows Term (spec.other_name rules more b h)
-          other true h = r.foreign h.bytes
+          other true h = foreign (eqb (length h.bytes) 0) h.bytes
           other false h = causes_resolved_name h.index
 
           by : (h : Lookahead) (s : Special) → Behaves test grows Term (spec.named_by rules more scoped h s)

@@ -1,5 +1,5 @@
 -- Types are read in one way, whatever follows them.
-use Rattle.std.proofs.Common.{◌≡◌, ℕ, zero, suc, Bool, true, false, List, Option, Some, None, Result, Ok, Err, IsTrue, refl, ap, sym, ◌∙◌}
+use Rattle.std.proofs.Common.{◌≡◌, ℕ, zero, suc, Bool, true, false, List, Option, Some, None, IsTrue, refl, ap, sym}
 use Rattle.std.proofs.lemmas.Bool.{eqb-true}
 use Rattle.vsd_terms.specs.declared.term.Term.{Term}
 use Rattle.vsd_terms.specs.declared.term.Builtin.{Builtin}
@@ -8,8 +8,8 @@ use Rattle.vsd_grammar.specs.declared.token_class.TokenClass.TheVariants as clas
 use Rattle.vsd_grammar.specs.declared.cause.Cause.{Cause}
 use Rattle.vsd_grammar.specs.declared.cause.Form.{Form}
 use Rattle.vsd_grammar.specs.Input.{Input, Lookahead, class_at, same_class, is_comma}
-use Rattle.vsd_grammar.specs.Grammar.{G, Derives, Decides, Follows}
-use Rattle.vsd_grammar.specs.Productions.{is_name, required, must_see}
+use Rattle.vsd_grammar.specs.Grammar.{G, Derives, Decides}
+use Rattle.vsd_grammar.specs.Productions.{is_name}
 use Rattle.vsd_grammar.proofs.Deciding.{anything, decides_expect, decides_must_see, decides_node, decides_node_at, decides_no_nodes, decides_spelled_name, decides_then_pass, decides_name, must_see_begins}
 use Rattle.vsd_type_syntax.specs.declared.starts.Start.{Start}
 use Rattle.vsd_type_syntax.specs.declared.starts.Start.TheVariants as start

@@ -3,3 +3,4 @@ pub mod Deciding
 pub mod Beginning
 pub mod StartBehaving
 pub mod Behaving
+pub mod Sizes

@@ -1,8 +1,7 @@
 -- The causes of what a token begins at a type's place.
 use Rattle.std.proofs.Common.{ℕ, Bool, true, false, cond, eqb, IsTrue, List, length, Option, Some, None, IfSome}
-use Rattle.vsd_terms.specs.declared.term.Builtin.{Builtin}
 use Rattle.vsd_grammar.specs.declared.cause.Cause.{Cause}
-use Rattle.vsd_grammar.specs.declared.cause.Cause.TheVariants.{Unexpected, Unsupported}
+use Rattle.vsd_grammar.specs.declared.cause.Cause.TheVariants.{Unexpected}
 use Rattle.vsd_grammar.specs.declared.keyword.Keyword.{Keyword}
 use Rattle.vsd_grammar.specs.declared.keyword.Keyword.TheVariants as key
 use Rattle.vsd_grammar.specs.declared.token_class.TokenClass.{TokenClass}
@@ -11,7 +10,7 @@ use Rattle.vsd_type_syntax.specs.declared.starts.Start.{Start}
 use Rattle.vsd_type_syntax.specs.declared.starts.Start.TheVariants as start
 use Rattle.vsd_type_syntax.specs.declared.starts.Special.{Special}
 use Rattle.vsd_type_syntax.specs.declared.starts.Special.TheVariants as special
-use Rattle.vsd_type_syntax.specs.Starts.{word_start, symbol_start, start_of, is_class, named_start, start_at, special_of}
+use Rattle.vsd_type_syntax.specs.Starts.{word_start, start_of, is_class, named_start, start_at, special_of}
 use Rattle.vsd_type_syntax.specs.Types.{name_cause, start_cause, first_cause}
 use Rattle.vsd_type_syntax.specs.Behaving.{TypesPass, StartPasses}
 

@@ -1,5 +1,5 @@
 -- Which causes a reading of types may have, by a test that they pass.
-use Rattle.std.specs.Prelude.{ℕ, Bool, IsTrue, List, Option, Result, MatchResult, IfSome}
+use Rattle.std.specs.Prelude.{ℕ, Bool, IsTrue, List, MatchResult, IfSome}
 use Rattle.vsd_grammar.specs.declared.cause.Cause.{Cause}
 use Rattle.vsd_grammar.specs.declared.cause.Cause.TheVariants.{Unexpected, Unsupported, TooMany, TooDeep}
 use Rattle.vsd_grammar.specs.declared.cause.Counted.TheVariants as limit

@@ -3,3 +3,4 @@ pub mod Starts
 pub mod Types
 pub mod More
 pub mod Behaving
+pub mod Limits

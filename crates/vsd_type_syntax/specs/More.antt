@@ -4,7 +4,7 @@ use Rattle.std.specs.Borrow.{MutBor}
 use Rattle.vsd_terms.specs.declared.term.Term.{Term}
 use Rattle.vsd_grammar.specs.declared.syntax_error.Stop.{Stop}
 use Rattle.vsd_grammar.specs.Input.{Input}
-use Rattle.vsd_grammar.specs.Grammar.{G, Outcome, run}
+use Rattle.vsd_grammar.specs.Grammar.{Outcome}
 use Rattle.vsd_grammar.specs.Productions.{Reads}
 
 -- each call of the closure reads this production

@@ -1,5 +1,5 @@
 -- What a token at a type's place begins, and what a token after a type shows.
-use Rattle.std.specs.Prelude.{ℕ, Bool, true, false, if◌then◌else◌, ◌==◌, List, Option, Some, None, Result, Ok, Err, codes}
+use Rattle.std.specs.Prelude.{ℕ, Bool, true, false, if◌then◌else◌, ◌==◌, List, Option, Some, None, codes}
 use Rattle.std.specs.Str.{bytes_eq}
 use Rattle.vsd_terms.specs.declared.term.Builtin.{Builtin}
 use Rattle.vsd_terms.specs.declared.term.Builtin.TheVariants as builtin
@@ -7,7 +7,6 @@ use Rattle.vsd_grammar.specs.declared.keyword.Keyword.{Keyword}
 use Rattle.vsd_grammar.specs.declared.keyword.Keyword.TheVariants as key
 use Rattle.vsd_grammar.specs.declared.token_class.TokenClass.{TokenClass}
 use Rattle.vsd_grammar.specs.declared.token_class.TokenClass.TheVariants as class
-use Rattle.vsd_grammar.specs.declared.cause.Cause.{Cause}
 use Rattle.vsd_grammar.specs.declared.cause.Cause.TheVariants.{Unexpected, Unsupported}
 use Rattle.vsd_grammar.specs.declared.cause.Form.{Form}
 use Rattle.vsd_grammar.specs.declared.cause.Form.TheVariants as form

@@ -1,5 +1,5 @@
 -- The productions of types, over what differs between declarations and scripts.
-use Rattle.std.specs.Prelude.{ℕ, zero, suc, Bool, true, false, if◌then◌else◌, ◌==◌, List, [], length, Option, Some, None, Result, Ok, Err}
+use Rattle.std.specs.Prelude.{ℕ, zero, suc, Bool, true, false, if◌then◌else◌, ◌==◌, List, [], length, Option, Some, None, Result}
 use Rattle.vsd_terms.specs.declared.term.Term.{Term}
 use Rattle.vsd_terms.specs.declared.term.Term.TheVariants as term
 use Rattle.vsd_terms.specs.declared.term.Builtin.{Builtin}
@@ -16,13 +16,13 @@ use Rattle.vsd_type_syntax.specs.declared.starts.Start.{Start}
 use Rattle.vsd_type_syntax.specs.declared.starts.Start.TheVariants as start
 use Rattle.vsd_type_syntax.specs.declared.starts.Special.{Special}
 use Rattle.vsd_type_syntax.specs.declared.starts.Special.TheVariants as special
-use Rattle.vsd_type_syntax.specs.Starts.{start_at, start_of, unsigned_of, special_of, suffix_of}
+use Rattle.vsd_type_syntax.specs.Starts.{start_at, unsigned_of, special_of, suffix_of}
 
 -- What differs between the readers.
 pub record Rules : Type 0 where
   -- the number of a name that is not built in, or why it is refused
   pub resolve : List ℕ → State → Result (ℕ × State) Cause
-  -- why a name after a scope is refused that is not built in
+  -- why a name after a scope is refused that is not built in, and not empty
   pub foreign : List ℕ → Cause
   -- whether `!` may begin a type
   pub has_parameters : Bool
@@ -110,9 +110,13 @@ unfoldable pub resolved_name : Rules → (ℕ → ℕ → G Term) → ℕ → G 
 resolved_name rules more index = bind (List ℕ) Term spelled_name (λ bytes.
     bind ℕ Term (count ℕ (rules.resolve bytes)) (λ number. bind (Unit {0}) Term pass (λ _. after_name rules more index number)))
 
+-- why a name after a scope is refused: an empty one is none, and any other is not of this text
+abbrev pub scoped_cause : Rules → List ℕ → Cause
+scoped_cause rules bytes = if length bytes == 0 then Unexpected else rules.foreign bytes
+
 -- a name that is not built in, after a scope or not
 abbrev pub other_name : Rules → (ℕ → ℕ → G Term) → Bool → Lookahead → G Term
-other_name rules more true h = refuse Term (rules.foreign h.bytes)
+other_name rules more true h = refuse Term (scoped_cause rules h.bytes)
 other_name rules more false h = resolved_name rules more h.index
 
 abbrev pub named_by : Rules → (ℕ → ℕ → G Term) → Bool → Lookahead → Special → G Term

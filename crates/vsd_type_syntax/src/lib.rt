@@ -11,7 +11,7 @@ mod rules;
 mod starts;
 mod types;
 
-pub use laws::{first_test_accepts, types_are_decided};
+pub use laws::{first_test_accepts, types_are_decided, types_keep_limits};
 pub use lists::first_cause;
 pub use rules::TypeRules;
 pub use starts::{Special, Start};

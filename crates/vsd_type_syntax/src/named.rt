@@ -82,6 +82,17 @@ fn parameter_name(cursor: &mut Cursor<'_>, place: u8) -> Result<Term, Stop>
     Ok(Term::Param(place))
 }
 
+/// Why a name after a scope is refused that is not built in; an empty one is no name.
+pub fn scoped_cause<R: TypeRules>(rules: &R, name: &[u8]) -> Cause
+    ensures { result ≡ spec.scoped_cause (R.rules rules.now) name.now }
+{
+    if name.len() == 0 {
+        Cause::Unexpected
+    } else {
+        rules.foreign(name)
+    }
+}
+
 /// A refusal for this cause, if there is one, at the token of this index.
 pub fn shown_at(cursor: &Cursor<'_>, index: usize, cause: Option<Cause>) -> Result<(), Stop>
     ensures { Reads (run _ (spec.shown_at index cause) cursor.now) result cursor.now }

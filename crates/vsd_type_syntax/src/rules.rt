@@ -16,7 +16,7 @@ pub trait TypeRules {
     fn resolve(&self, cursor: &mut Cursor<'_>, name: &[u8]) -> Result<u16, Stop>
         ensures { Reads (run _ (count _ ((rules self.now).resolve name.now)) cursor.old) result cursor.new };
 
-    /// Why a name after a scope is refused that is not built in.
+    /// Why a name after a scope is refused that is not built in. It has a byte at least, and may have more than 255.
     fn foreign(&self, name: &[u8]) -> Cause
         ensures { result ≡ (rules self.now).foreign name.now };
 

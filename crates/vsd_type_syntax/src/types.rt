@@ -9,7 +9,9 @@ ghost use Rattle.vsd_terms.specs.declared.term.Term.{Term};
 ghost use Rattle.vsd_type_syntax.specs.Types as spec;
 ghost use Rattle.vsd_type_syntax.specs.More.{ReadsMore};
 
-use crate::named::{bare, builtin_name, builtin_word, closed, no_arguments, parameter, unsigned};
+use crate::named::{
+    bare, builtin_name, builtin_word, closed, no_arguments, parameter, scoped_cause, unsigned,
+};
 use crate::rules::TypeRules;
 use crate::starts::{Special, Start, special_of, start_at, suffix_of};
 use sqlite_items::Items;
@@ -82,7 +84,7 @@ where
         → Reads (run _ (spec.other_name (R.rules rules.now) (spec.more_of (R.rules rules.now) room) scoped (lookahead_of cursor.old)) cursor.old) result cursor.new }
 {
     if scoped {
-        return Err(cursor.refuse(rules.foreign(cursor.bytes())));
+        return Err(cursor.refuse(scoped_cause(rules, cursor.bytes())));
     }
     let index = cursor.index();
     resolved_name(alloc, cursor, rules, more, index)

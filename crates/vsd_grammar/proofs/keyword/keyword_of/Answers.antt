@@ -1,7 +1,7 @@
-use Rattle.std.proofs.Common.{◌≡◌, ◌∙◌, ℕ, map, get_or, refl, ap}
+use Rattle.std.proofs.Common.{◌≡◌, ◌∙◌, map, get_or, refl, ap}
 use Rattle.std.specs.List.{slice_get}
 use Rattle.vsd_grammar.specs.declared.keyword.TheConstants.{WORDS, SLOTS}
-use Rattle.vsd_grammar.specs.Words.{words, key_by, slot_of}
+use Rattle.vsd_grammar.specs.Words.{words, key_by}
 use Rattle.vsd_grammar.proofs.Keys.{slot_entry, key_found}
 use Rattle.vsd_grammar.proofs.keyword.keyword_of.Goals as goal
 

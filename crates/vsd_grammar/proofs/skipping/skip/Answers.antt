@@ -3,8 +3,7 @@ use Rattle.vsd_grammar.specs.Input.{left}
 use Rattle.vsd_grammar.specs.Grammar.{run}
 use Rattle.vsd_grammar.specs.Productions.{Reads}
 use Rattle.vsd_grammar.specs.Skipping.{skip, skip_turn, passes_at_most}
-use Rattle.vsd_grammar.specs.declared.turn.Turn.TheVariants as turn
-use Rattle.std.proofs.Common.{ℕ, subst}
+use Rattle.std.proofs.Common.{subst}
 use Rattle.vsd_grammar.proofs.TurnSteps.{scan_begins, scan_turns, scan_stops, scan_refuses, scan_cannot_pass, scan_passes, scan_ends}
 use Rattle.vsd_grammar.proofs.skipping.skip.Goals as goal
 

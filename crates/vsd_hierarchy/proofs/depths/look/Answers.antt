@@ -16,10 +16,10 @@ returns-then-is_no_later c =
 pub reaches_itself-requires-clause-within : goal.reaches_itself-requires-clause-within
 reaches_itself-requires-clause-within c =
     let ds = c.args.scope.now.list.now in
-    subst (λ (g : List (List ℕ)). c.args.place < length g) (sym c.requires.graph) (omega (arith, slice_get_within ds c.args.place c.args.decl.now c.requires.there, length-map ds (λ (x : Decl). places_of ds (followed x))))
+    subst (λ (g : List (List ℕ)). c.args.place < length g) (sym c.requires.graph) (omega (arith, slice_get_within ds c.args.place c.args.decl.now c.requires.there, length-map ds (λ (x : Decl). places_of ds (followed ds x))))
 
 pub reaches_itself-requires-clause-closed : goal.reaches_itself-requires-clause-closed
-reaches_itself-requires-clause-closed c = subst IsClosed (sym c.requires.graph) (IsClosed-graph_of c.args.scope.now.list.now followed)
+reaches_itself-requires-clause-closed c = subst IsClosed (sym c.requires.graph) (IsClosed-graph_of c.args.scope.now.list.now (followed c.args.scope.now.list.now))
 
 pub returns : goal.returns
 returns c =
@@ -28,4 +28,4 @@ returns c =
     let place = c.args.place in
     let decides = subst (λ (g : List (List ℕ)). IsTrue c.in_ok-comes_back.comes_back ↔ ReachesItself g place) c.requires.graph c.in_ok-comes_back.ensures in
     IsLeast-next ds (ShowsCycle ds) place x c.args.found c.shown.result c.earlier.result c.earlier.ensures c.requires.there c.requires.least
-    (IsLeast-shown (ReachesItself (graph_of ds followed) place) c.in_ok-comes_back.comes_back x.line c.shown.result c.shown.ensures decides)
+    (IsLeast-shown (ReachesItself (graph_of ds (followed ds)) place) c.in_ok-comes_back.comes_back x.line c.shown.result c.shown.ensures decides)

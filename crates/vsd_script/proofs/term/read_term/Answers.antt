@@ -3,7 +3,7 @@ use Rattle.vsd_script.specs.Productions.{term_at}
 use Rattle.vsd_script.specs.Answers.{anything}
 use Rattle.vsd_script.proofs.Deciding.{decides_term_at}
 use Rattle.vsd_script.proofs.Terms.{term_root, term_after}
-use Rattle.vsd_script.proofs.Told.{stops_with, what_is_found, nothing_else, nothing_allowed, final}
+use Rattle.vsd_script.proofs.Told.{stops_with, what_is_found, nothing_else, nothing_allowed, is_dead}
 use Rattle.vsd_script.proofs.term.read_term.Goals as goal
 
 pub returns-in-Ok-clause-exact : goal.returns-in-Ok-clause-exact
@@ -23,8 +23,11 @@ returns-in-Err-clause-only c = λ y k d.
     let w = c.in-Err.ensures in
     c.told.ensures ∙ nothing_allowed (term_at c.args.decls.now) (decides_term_at c.args.decls.now anything) _ w.0 c.args.tokens.now c.in-Err.stop w.1 y k d
 
+pub returns-in-Ok-clause-dead : goal.returns-in-Ok-clause-dead
+returns-in-Ok-clause-dead c = is_dead (term_at c.args.decls.now) (decides_term_at c.args.decls.now anything) _
+
 pub returns-in-Err-clause-dead : goal.returns-in-Err-clause-dead
-returns-in-Err-clause-dead c = let w = c.in-Err.ensures in (c.in-Err.stop, c.told.ensures, final (term_at c.args.decls.now) (decides_term_at c.args.decls.now anything) _ w.0 c.in-Err.stop w.1)
+returns-in-Err-clause-dead c = is_dead (term_at c.args.decls.now) (decides_term_at c.args.decls.now anything) _
 
 pub returns-in-Ok-clause-root : goal.returns-in-Ok-clause-root
 returns-in-Ok-clause-root c =

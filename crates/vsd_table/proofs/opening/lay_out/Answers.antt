@@ -1,6 +1,7 @@
-use Rattle.std.proofs.Common.{ℕ, List, [], ◌∷◌, sym, ◌∙◌, subst}
+use Rattle.std.proofs.Common.{◌≡◌, ℕ, List, [], ◌∷◌, sym, ◌∙◌, subst}
 use Rattle.vsd_rule.specs.Rule.{Rule}
 use Rattle.vsd_rule.specs.Moves.{root_view}
+use Rattle.vsd_rule.specs.Opening.{opening_words}
 use Rattle.vsd_rule.proofs.Opening.{opening_holds}
 use Rattle.vsd_table.proofs.Laid.{words_written}
 use Rattle.vsd_table.proofs.opening.lay_out.Goals as goal
@@ -8,6 +9,5 @@ use Rattle.vsd_table.proofs.opening.lay_out.Goals as goal
 pub of_words-requires : goal.of_words-requires
 of_words-requires c =
     let k = c.args.key in
-    subst (λ (words : List ℕ). Rule k words (root_view k ∷ []))
-    (sym (c.deref.ensures.value ∙ (c.in_ok-words.ensures ∙ words_written k c.of-offsets.result c.args.hosts.now c.of-offsets.ensures.offsets c.requires.hosts c.requires.lawful.hosts)))
-    (opening_holds k c.requires.lawful)
+    let is : _ ≡ opening_words k = c.deref.ensures.value ∙ (c.in_ok-words.ensures ∙ words_written k c.of-offsets.result c.args.hosts.now c.of-offsets.ensures.offsets c.requires.hosts c.requires.lawful.hosts) in
+    record { rule = subst (λ (words : List ℕ). Rule k words (root_view k ∷ [])) (sym is) (opening_holds k c.requires.lawful); opened = λ none. is }

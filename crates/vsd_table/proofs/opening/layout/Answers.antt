@@ -3,6 +3,7 @@ use contract.BorrowLft.{⊑_refl, ⊑_meet, ⊑_static}
 use Rattle.vsd_rule.specs.Lists.{key_with}
 use Rattle.vsd_table.specs.Seating.{key_of}
 use Rattle.vsd_table.proofs.Laid.{ok_then, key_is}
+use Rattle.vsd_table.proofs.Opened.{opened_ok}
 use Rattle.vsd_table.proofs.opening.layout.Goals as goal
 
 pub of-world-requires : goal.of-world-requires
@@ -21,3 +22,6 @@ returns-clause-key g c =
     let cmp = g.R.Resolver.cmp c.args.resolver.now in
     ok_then c.lay_out.result (λ made. key_of made.0 ≡ record { sizes = c.args.sizes; world = c.of-world.result }) (λ made. key_of made.0 ≡ key_with c.args.sizes types c.args.sites.now c.args.hosts.now sel cmp)
     (λ made is. is ∙ key_is c.args.sizes c.of-world.result types c.args.sites.now c.args.hosts.now sel cmp facts.0 facts.1 facts.2 facts.3 facts.4) c.lay_out.ensures.key
+
+pub returns-clause-opened : goal.returns-clause-opened
+returns-clause-opened g c = opened_ok c.lay_out.result

@@ -1,4 +1,4 @@
-use Rattle.std.proofs.Common.{rules, ◌≡◌, ◌-◌, suc, sym, subst, None, arith}
+use Rattle.std.proofs.Common.{◌≡◌, ◌-◌, suc, sym, subst, None, arith}
 use Rattle.vsd_grammar.specs.Grammar.{run}
 use Rattle.vsd_grammar.specs.Productions.{Reads}
 use Rattle.vsd_type_syntax.specs.Types.{type_of}

@@ -1,4 +1,4 @@
-use Rattle.std.proofs.Common.{rules, Some}
+use Rattle.std.proofs.Common.{Some}
 use Rattle.vsd_type_syntax.proofs.types.type_below.Goals as goal
 
 pub returns : goal.returns

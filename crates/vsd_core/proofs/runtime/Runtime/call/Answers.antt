@@ -13,6 +13,7 @@ invariant_of-who g c =
     let key = key_of c.args.self.now.table in
     record {
       words = before.words ∙ sym made.owned;
+      count = before.count;
       unpinned = made.unpinned;
       rests = ∥∥₁_map before.rests (rests_one key before.hand.seated c.call.new.hand.seated (called c.args.site c.args.h c.call.result) (52 + key.sizes.callers) c.requires.caller.key made.trail.stays made.logged
           (call_is_shown (view_of c.call.new.hand.seated) key c.args.site c.token-token.result c.args.h c.call.result (made.trail.stays.key ∙ c.requires.caller.key) c.token-token.ensures.token made.evidence));

@@ -22,6 +22,7 @@ invariant_of-who g c =
     let key = key_of c.args.self.now.table in
     record {
       words = before.words ∙ sym made.stays.owned;
+      count = before.count;
       unpinned = made.stays.pinned ∙ before.unpinned;
       rests = ∥∥₁_map before.rests (rests_one key before.hand.seated c.cast.new.hand.seated (cast_to c.args.source c.args.target c.cast.result) 39 c.requires.caller.key made.trail.stays made.logged
           (cast_is_shown (view_of c.cast.new.hand.seated) c.args.source c.args.target c.cast.result made.evidence));

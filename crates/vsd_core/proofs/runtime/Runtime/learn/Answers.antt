@@ -12,6 +12,7 @@ invariant_of-who g c =
     let key = key_of c.args.self.now.table in
     record {
       words = before.words ∙ sym (ap (λ (v : View). v.handles.owned) view);
+      count = before.count;
       unpinned = ap (λ (v : View). v.rows.pinned) view ∙ before.unpinned;
       rests = ∥∥₁_map before.rests (rests_same key before.hand.seated c.type_of.new.hand.seated c.requires.caller.key c.type_of.ensures.trail.stays
           (logs_learn key c.args.h before.hand.seated c.type_of.new.hand.seated c.type_of.result c.requires.caller.key c.type_of.ensures.trail));

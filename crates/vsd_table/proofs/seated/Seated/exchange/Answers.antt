@@ -6,4 +6,4 @@ use Rattle.vsd_table.proofs.seated.Seated.exchange.Goals as goal
 
 -- the seat knows the table's sizes
 pub returns-clause-learns : goal.returns-clause-learns
-returns-clause-learns g c = subst (λ (k : Key). Learns g.K.StepKind.kind k.sizes c.args.index c.args.old c.args.new (view_of c.args.self.now) c.compare_exchange.result c.compare_exchange.new.seat.me.0) c.requires.seat.key c.compare_exchange.ensures.2.2
+returns-clause-learns g c = subst (λ (k : Key). Learns g.K.StepKind.kind k.sizes c.args.index c.args.old c.args.new (view_of c.args.self.now) c.compare_exchange.result c.compare_exchange.new.seat.me.0) c.requires.seat.key c.compare_exchange.ensures.2.3

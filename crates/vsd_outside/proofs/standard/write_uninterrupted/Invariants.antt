@@ -1,0 +1,6 @@
+-- A write that failed was taken nothing of.
+use Rattle.std.specs.Io.KnownBytes.{Keeps}
+use Rattle.vsd_outside.proofs.standard.write_uninterrupted.Given as goal
+
+abbrev pub invariant-loop : goal.invariant-loop
+invariant-loop g l = Keeps (g.W.Write.contents l.initial.writer) (g.W.Write.contents l.writer)
